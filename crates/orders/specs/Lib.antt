@@ -1,0 +1,6 @@
+pub mod Numbers
+pub mod Capacities
+pub mod Ticks
+pub mod Ranges
+pub mod Told
+pub mod Checks
