@@ -1,4 +1,6 @@
 // The terms of an order.
+ghost use mathlib.Core.Path.{_≡_};
+ghost use Rattle.orders.specs.Forms.{type-of, same-form};
 
 #[derive(Clone, Copy, PartialEq, Eq, Debug)]
 pub enum Side {
@@ -24,6 +26,19 @@ pub enum OrderType {
     StopLimit,
 }
 
+impl Kind {
+    pub fn order_type(self) -> OrderType
+        ensures { λ r. ⌜ r ≡ type-of self ⌝ }
+    {
+        match self {
+            Kind::Market => OrderType::Market,
+            Kind::Limit { .. } => OrderType::Limit,
+            Kind::StopMarket { .. } => OrderType::StopMarket,
+            Kind::StopLimit { .. } => OrderType::StopLimit,
+        }
+    }
+}
+
 // What an order says; `quantity` is what is still open.
 #[derive(Clone, Copy, PartialEq, Eq, Debug)]
 pub struct Terms {
@@ -32,4 +47,13 @@ pub struct Terms {
     pub side: Side,
     pub kind: Kind,
     pub quantity: u32,
+}
+
+impl Terms {
+    // Has it the side and the type of the other?
+    pub fn has_form_of(self, other: Terms) -> bool
+        ensures { λ r. ⌜ r ≡ same-form self other ⌝ }
+    {
+        self.side == other.side && self.kind.order_type() == other.kind.order_type()
+    }
 }

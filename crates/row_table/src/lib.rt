@@ -1,0 +1,3 @@
+// A store that is a table of rows, moved up when one leaves.
+pub mod calls;
+pub mod table;
