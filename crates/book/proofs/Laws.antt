@@ -9,6 +9,7 @@ use native.Mathlib.Omega.{arith}
 use lib.Dec.{eqb, leb}
 use lib.ListN.{length, drop}
 use Rattle.std.proofs.shelf.Tests.{cases-bool, and-parts, and-from, or-parts, or-from, not-true, not-from-false, or-left, or-right, eqb-true, eq-eqb, ne-eqb, both-ways}
+use Rattle.std.specs.Options.{orOther}
 use Rattle.std.specs.declared.option.Option.the-variants.{Some, None}
 use Rattle.orders.specs.declared.terms.Terms.{Terms}
 use Rattle.orders.specs.Ranges.{in-range, with-quantity}
@@ -112,3 +113,23 @@ shares-most ts s = omega (arith, sumBy-le quantity-of 1000000 ts (all-weaker (λ
 -- the shares from a place on: those of the order there, and those of the rest
 pub shares-first : {ts : List Terms} {i : ℕ} {t : Terms} → Stands ts i t → open-shares (drop i ts) ≡ t .quantity + open-shares (drop (i + 1) ts)
 shares-first {ts} {i} {t} s = ap open-shares (s .first) ∙ sumBy-cons quantity-of t (drop (i + 1) ts)
+
+-- what is found after a change of the list
+pub found-none : (n : ℕ) (ts : List Terms) → held n ts ≡ false → found n ts ≡ None
+found-none n [] h = refl
+found-none n (x ∷ ts) h = let p = or-parts (eqb (x .number) n) (held n ts) h in rw (p .0) (found-none n ts (p .1))
+
+pub found-push : (n : ℕ) (ts : List Terms) (t : Terms) → found n (ts ++ t ∷ []) ≡ orOther (found n ts) (found n (t ∷ []))
+found-push n [] t = refl
+found-push n (x ∷ ts) t = ⊎-elim (λ e. rw e) (λ e. rw e (found-push n ts t)) (cases-bool (eqb (x .number) n))
+
+pub found-without : (n m : ℕ) (ts : List Terms) → (n ≡ m → ⊥) → found n (without m ts) ≡ found n ts
+found-without n m [] h = refl
+found-without n m (x ∷ ts) h =
+    ⊎-elim
+    (λ e. let other : eqb (x .number) n ≡ false = ne-eqb _ _ (λ k. h (sym k ∙ eqb-true (x .number) m e)) in rw (e, other))
+    (λ e. rw e (ap (cond (eqb (x .number) n) (Some x)) (found-without n m ts h)))
+    (cases-bool (eqb (x .number) m))
+
+pub found-gone : (n : ℕ) (ts : List Terms) → distinct ts ≡ true → found n (without n ts) ≡ None
+found-gone n ts d = found-none n (without n ts) (held-gone n ts d)

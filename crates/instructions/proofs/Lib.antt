@@ -1,0 +1,2 @@
+mod Changing
+pub mod Conserving
