@@ -9,11 +9,11 @@ use Rattle.std.specs.declared.option.Option.the-variants.{Some, None}
 use Rattle.std.specs.declared.result.Result.{Result}
 use Rattle.std.specs.declared.result.Result.the-variants.{Ok, Err}
 use Rattle.orders.specs.Checks.{checked, checked-ticket, terms-under, identified, on-lot, kind-named}
-use Rattle.orders.specs.Told.{seen}
+use Rattle.orders.specs.Results.{seen}
+use Rattle.orders.specs.Ticks.{Grid}
 use Rattle.orders.specs.declared.instruction.Instruction.{Instruction}
 use Rattle.orders.specs.declared.instruction.Instruction.the-variants.{Enter, Change, Delete}
 use Rattle.orders.specs.declared.refusal.Refusal.{Refusal}
-use Rattle.orders.specs.declared.settings.Settings.{Settings}
 use Rattle.orders.specs.declared.terms.Kind.{Kind}
 use Rattle.orders.specs.declared.terms.Terms.{Terms}
 use Rattle.orders.specs.declared.ticket.Ticket.{Ticket}
@@ -29,15 +29,15 @@ under : (t : Ticket) (k : Option Kind) (e : Refusal) (u : Terms) → Ok u ≡ se
 under t None e u h = let z : _≡_ {A = ℕ} 0 1 = cc in absurd (omega arith)
 under t (Some k) e u h = let same : u ≡ terms-under t k = cc in ap (λ x. x .number) same
 
-ticket-number : (s : Settings) (t : Ticket) (u : Terms) → Ok u ≡ checked-ticket s t → u .number ≡ t .number
-ticket-number s t u h = under t _ _ u (passed (on-lot s (t .quantity)) _ _ u (passed (identified (t .number) (t .participant)) _ _ u h))
+ticket-number : (g : Grid) (t : Ticket) (u : Terms) → Ok u ≡ checked-ticket g t → u .number ≡ t .number
+ticket-number g t u h = under t _ _ u (passed (on-lot g (t .quantity)) _ _ u (passed (identified (t .number) (t .participant)) _ _ u h))
 
 -- the instruction that a checked ticket makes
-made : (s : Settings) (t : Ticket) (make : Terms → Instruction Terms) (r : Result Terms Refusal) (j : Instruction Terms) → ((u : Terms) → about (make u) ≡ u .number) → ((u : Terms) → Ok u ≡ r → u .number ≡ t .number) → Ok j ≡ seen make r → about j ≡ t .number
-made s t make (Ok u) j m n h = let same : j ≡ make u = cc in ap about same ∙ m u ∙ n u refl
-made s t make (Err e) j m n h = let z : _≡_ {A = ℕ} 0 1 = cc in absurd (omega arith)
+made : (g : Grid) (t : Ticket) (make : Terms → Instruction Terms) (r : Result Terms Refusal) (j : Instruction Terms) → ((u : Terms) → about (make u) ≡ u .number) → ((u : Terms) → Ok u ≡ r → u .number ≡ t .number) → Ok j ≡ seen make r → about j ≡ t .number
+made g t make (Ok u) j m n h = let same : j ≡ make u = cc in ap about same ∙ m u ∙ n u refl
+made g t make (Err e) j m n h = let z : _≡_ {A = ℕ} 0 1 = cc in absurd (omega arith)
 
-pub same-number : (s : Settings) (i : Instruction Ticket) (j : Instruction Terms) → Ok j ≡ checked s i → about j ≡ named i
-same-number s (Enter t) j h = made s t Enter (checked-ticket s t) j (λ u. refl) (ticket-number s t) h
-same-number s (Change t) j h = made s t Change (checked-ticket s t) j (λ u. refl) (ticket-number s t) h
-same-number s (Delete n p) j h = let same : j ≡ Delete n p = cc (passed (identified n p) (Ok (Delete n p)) _ j h) in ap about same
+pub same-number : (g : Grid) (i : Instruction Ticket) (j : Instruction Terms) → Ok j ≡ checked g i → about j ≡ named i
+same-number g (Enter t) j h = made g t Enter (checked-ticket g t) j (λ u. refl) (ticket-number g t) h
+same-number g (Change t) j h = made g t Change (checked-ticket g t) j (λ u. refl) (ticket-number g t) h
+same-number g (Delete n p) j h = let same : j ≡ Delete n p = cc (passed (identified n p) (Ok (Delete n p)) _ j h) in ap about same

@@ -5,10 +5,10 @@ use Prim.Native.Nat.{ℕ}
 use Rattle.std.specs.declared.result.Result.{Result}
 use Rattle.std.specs.declared.result.Result.the-variants.{Ok, Err}
 use Rattle.orders.specs.Checks.{checked}
+use Rattle.orders.specs.Ticks.{Grid}
 use Rattle.orders.specs.declared.instruction.Instruction.{Instruction}
 use Rattle.orders.specs.declared.instruction.Instruction.the-variants.{Enter, Change, Delete}
 use Rattle.orders.specs.declared.refusal.Refusal.{Refusal}
-use Rattle.orders.specs.declared.settings.Settings.{Settings}
 use Rattle.orders.specs.declared.terms.Terms.{Terms}
 use Rattle.orders.specs.declared.ticket.Ticket.{Ticket}
 use Rattle.instructions.specs.Conservation.{Conserved}
@@ -24,11 +24,11 @@ abbrev pub book-once : Result (Instruction Terms) Refusal → ℕ → List Terms
 book-once (Ok i) room ts = carried-book room i ts
 book-once (Err e) room ts = ts
 
-abbrev pub sent-answer : Settings → ℕ → Instruction Ticket → List Terms → Result Effect Refusal
-sent-answer s room i ts = answer-once (checked s i) room ts
+abbrev pub sent-answer : Grid → ℕ → Instruction Ticket → List Terms → Result Effect Refusal
+sent-answer g room i ts = answer-once (checked g i) room ts
 
-abbrev pub sent-book : Settings → ℕ → Instruction Ticket → List Terms → List Terms
-sent-book s room i ts = book-once (checked s i) room ts
+abbrev pub sent-book : Grid → ℕ → Instruction Ticket → List Terms → List Terms
+sent-book g room i ts = book-once (checked g i) room ts
 
 -- the order number that an instruction names
 abbrev pub named : Instruction Ticket → ℕ
@@ -36,9 +36,9 @@ named (Enter t) = t .number
 named (Change t) = t .number
 named (Delete n p) = n
 
--- what one instruction gives under the settings: its answer, the book after it, the capacity as before, and no share lost or invented
-pub record Sent (s : Settings) (i : Instruction Ticket) (room : ℕ) (before : List Terms) (answer : Result Effect Refusal) (room-after : ℕ) (after : List Terms) : Type 0 where
-  pub value : answer ≡ sent-answer s room i before
-  pub book : after ≡ sent-book s room i before
+-- what one instruction gives on a grid: its answer, the book after it, the capacity as before, and no share lost or invented
+pub record Sent (g : Grid) (i : Instruction Ticket) (room : ℕ) (before : List Terms) (answer : Result Effect Refusal) (room-after : ℕ) (after : List Terms) : Type 0 where
+  pub value : answer ≡ sent-answer g room i before
+  pub book : after ≡ sent-book g room i before
   pub same : room-after ≡ room
   pub conserves : Conserved (named i) answer before after

@@ -1,4 +1,4 @@
--- The tick of each class, and which settings there are.
+-- The settings of a market: the lot and the tick of its class.
 use mathlib.Core.Bool.{Bool, cond, _&&_}
 use mathlib.Core.List.{List, [], _∷_}
 use Prim.Native.Nat.{ℕ, _*_, _/_, _%_, _^_}
@@ -17,6 +17,14 @@ tick-of class = getD (1 ∷ 2 ∷ 5 ∷ []) (class % 3) 0 * 10 ^ (class / 3)
 abbrev pub valid-settings : ℕ → ℕ → Bool
 valid-settings lot class = leb 1 lot && leb lot 1000 && leb class 17
 
--- the settings, as lot and tick class, or the refusal
-abbrev pub settings-answer : ℕ → ℕ → Result (ℕ × ℕ) Refusal
-settings-answer lot class = cond (valid-settings lot class) (Ok (lot, class)) (Err Settings)
+-- what settings say: quantities are multiples of the lot, and prices of the tick
+pub record Grid : Type 0 where
+  pub lot : ℕ
+  pub tick : ℕ
+
+abbrev pub grid : ℕ → ℕ → Grid
+grid lot class = record { lot = lot; tick = tick-of class }
+
+-- the grid of a lot and a tick class, or the refusal
+abbrev pub settings-answer : ℕ → ℕ → Result Grid Refusal
+settings-answer lot class = cond (valid-settings lot class) (Ok (grid lot class)) (Err Settings)

@@ -1,9 +1,9 @@
--- Orders by their terms: definitions speak of terms, and the code hands orders about, whose terms are in range.
-use Rattle.std.specs.Results.{mapped}
-use Rattle.std.specs.declared.result.Result.{Result}
+-- Orders by their terms and settings by their grid: definitions speak of these, and the code hands about values that are in range.
 use Rattle.orders.specs.declared.instruction.Instruction.{Instruction}
 use Rattle.orders.specs.declared.instruction.Instruction.the-variants.{Enter, Change, Delete}
+use Rattle.orders.specs.Ticks.{Grid, grid}
 use Rattle.orders.specs.declared.order.Order.{Order}
+use Rattle.orders.specs.declared.settings.Settings.{Settings}
 use Rattle.orders.specs.declared.terms.Terms.{Terms}
 
 abbrev pub terms-of : Order → Terms
@@ -15,6 +15,5 @@ told (Enter o) = Enter (terms-of o)
 told (Change o) = Change (terms-of o)
 told (Delete n p) = Delete n p
 
--- a result with the value seen through f
-abbrev pub seen : {A B E : Type 0} → (A → B) → Result A E → Result B E
-seen f r = mapped f (λ e. e) r
+abbrev pub grid-of : Settings → Grid
+grid-of s = grid (s .lot) (s .«tick_class»)

@@ -1,7 +1,8 @@
 // The checks of an instruction that need only the settings.
 ghost use mathlib.Core.Path.{_≡_};
 ghost use Rattle.orders.specs.Checks.{identified, on-lot, on-tick, kind-named, checked-ticket, checked};
-ghost use Rattle.orders.specs.Told.{terms-of, told, seen};
+ghost use Rattle.orders.specs.Results.{seen};
+ghost use Rattle.orders.specs.Told.{terms-of, told, grid-of};
 use crate::instruction::Instruction;
 use crate::order::Order;
 use crate::ranges::is_price;
@@ -21,20 +22,20 @@ fn is_identified(number: u32, participant: u16) -> bool
 
 impl Settings {
     fn is_on_lot(self, quantity: u32) -> bool
-        ensures { λ r. ⌜ r ≡ on-lot self quantity ⌝ }
+        ensures { λ r. ⌜ r ≡ on-lot (grid-of self) quantity ⌝ }
     {
         is_quantity(quantity) && quantity % u32::from(self.lot) == 0
     }
 
     fn is_on_tick(self, price: u32) -> bool
-        ensures { λ r. ⌜ r ≡ on-tick self price ⌝ }
+        ensures { λ r. ⌜ r ≡ on-tick (grid-of self) price ⌝ }
     {
         is_price(price) && price % self.tick() == 0
     }
 
     // The kind that a ticket names with its prices.
     fn kind(self, ticket: Ticket) -> Option<Kind>
-        ensures { λ r. ⌜ r ≡ kind-named self (ticket .«order_type») (ticket .limit) (ticket .stop) ⌝ }
+        ensures { λ r. ⌜ r ≡ kind-named (grid-of self) (ticket .«order_type») (ticket .limit) (ticket .stop) ⌝ }
     {
         let Ticket { limit, stop, .. } = ticket;
         match ticket.order_type {
@@ -51,7 +52,7 @@ impl Settings {
 
     // The order that a ticket asks for.
     fn order(self, ticket: Ticket) -> Result<Order, Refusal>
-        ensures { λ r. ⌜ seen terms-of r ≡ checked-ticket self ticket ⌝ }
+        ensures { λ r. ⌜ seen terms-of r ≡ checked-ticket (grid-of self) ticket ⌝ }
     {
         let Ticket {
             number,
@@ -83,7 +84,7 @@ impl Settings {
 
     // The instruction about the order that it asks for.
     pub fn check(self, instruction: Instruction<Ticket>) -> Result<Instruction<Order>, Refusal>
-        ensures { λ r. ⌜ seen told r ≡ checked self instruction ⌝ }
+        ensures { λ r. ⌜ seen told r ≡ checked (grid-of self) instruction ⌝ }
     {
         match instruction {
             Instruction::Enter(ticket) => Ok(Instruction::Enter(self.order(ticket)?)),

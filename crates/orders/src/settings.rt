@@ -2,8 +2,8 @@
 ghost use mathlib.Core.Path.{_≡_};
 ghost use mathlib.Core.Bool.{true};
 ghost use Prim.Native.Nat.{_<_};
-ghost use Rattle.orders.specs.Ticks.{tick-of, valid-settings, settings-answer};
-ghost use Rattle.orders.specs.Told.{seen};
+ghost use Rattle.orders.specs.Ticks.{tick-of, valid-settings, grid, settings-answer};
+ghost use Rattle.orders.specs.Results.{seen};
 use crate::refusal::Refusal;
 
 #[derive(Clone, Copy)]
@@ -17,7 +17,7 @@ const LEADS: [u32; 3] = [1, 2, 5];
 
 impl Settings {
     pub fn new(lot: u16, tick_class: u32) -> Result<Settings, Refusal>
-        ensures { λ r. ⌜ seen (λ s. (s .lot, s .«tick_class»)) r ≡ settings-answer lot «tick_class» ⌝ }
+        ensures { λ r. ⌜ seen (λ s. grid (s .lot) (s .«tick_class»)) r ≡ settings-answer lot «tick_class» ⌝ }
     {
         if lot == 0 {
             return Err(Refusal::Settings);
