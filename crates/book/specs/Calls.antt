@@ -5,15 +5,18 @@ use mathlib.Core.Path.{_≡_}
 use Prim.Native.Nat.{ℕ, _≤_}
 use lib.Dec.{eqb, leb}
 use lib.ListN.{length}
-use Rattle.std.specs.Options.{okOr}
+use Rattle.std.specs.Finite.{nth}
+use Rattle.std.specs.Options.{mapped}
 use Rattle.std.specs.declared.option.Option.{Option}
 use Rattle.std.specs.declared.option.Option.the-variants.{Some, None}
 use Rattle.std.specs.declared.result.Result.{Result}
 use Rattle.std.specs.declared.result.Result.the-variants.{Ok, Err}
+use Rattle.orders.specs.Told.{terms-of}
+use Rattle.orders.specs.declared.order.Order.{Order}
 use Rattle.orders.specs.declared.refusal.Refusal.{Refusal}
 use Rattle.orders.specs.declared.refusal.Refusal.the-variants.{NumberHeld, BookFull}
 use Rattle.orders.specs.declared.terms.Terms.{Terms}
-use Rattle.book.specs.Lists.{held, found, lowered, Sound}
+use Rattle.book.specs.Lists.{held, found, without, lowered, Sound}
 
 -- what a call answers: its fault, or else x
 abbrev pub answered : {A : Type 0} → Option Refusal → A → Result A Refusal
@@ -53,3 +56,32 @@ pub record Kept (before after : ℕ) (ts : List Terms) : Type 0 where
   pub most : after ≤ 256
   pub within : length ts ≤ after
   pub sound : Sound ts
+
+-- What each call gives: on the list, at a capacity, its argument, the answer, and the capacity and the list after it.
+
+pub record Counted (ts : List Terms) (answer : ℕ) : Type 0 where
+  pub value : answer ≡ length ts
+  pub sound : Sound ts
+
+pub record Read-at (ts : List Terms) (place : ℕ) (answer : Option Order) : Type 0 where
+  pub value : mapped terms-of answer ≡ nth ts place
+  pub sound : Sound ts
+
+pub record Told-capacity (room : ℕ) (ts : List Terms) (answer : ℕ) : Type 0 where
+  pub value : answer ≡ room
+  pub kept : Kept room room ts
+
+pub record Appended (room : ℕ) (ts : List Terms) (t : Terms) (answer : Result (Unit {0}) Refusal) (room-after : ℕ) (ts-after : List Terms) : Type 0 where
+  pub value : answer ≡ append-answer room t ts
+  pub after : ts-after ≡ after-append room t ts
+  pub kept : Kept room room-after ts-after
+
+pub record Taken-out (room : ℕ) (ts : List Terms) (number : ℕ) (answer : Option Order) (room-after : ℕ) (ts-after : List Terms) : Type 0 where
+  pub value : mapped terms-of answer ≡ found number ts
+  pub after : ts-after ≡ without number ts
+  pub kept : Kept room room-after ts-after
+
+pub record Lowered (room : ℕ) (ts : List Terms) (number quantity : ℕ) (answer : Bool) (room-after : ℕ) (ts-after : List Terms) : Type 0 where
+  pub value : answer ≡ can-lower number quantity ts
+  pub after : ts-after ≡ after-lower number quantity ts
+  pub kept : Kept room room-after ts-after

@@ -6,11 +6,13 @@ use Rattle.std.specs.declared.result.Result.{Result}
 use Rattle.std.specs.declared.result.Result.the-variants.{Ok, Err}
 use Rattle.orders.specs.Checks.{checked}
 use Rattle.orders.specs.Ticks.{Grid}
+use Rattle.orders.specs.Told.{grid-of}
 use Rattle.orders.specs.declared.instruction.Instruction.{Instruction}
 use Rattle.orders.specs.declared.instruction.Instruction.the-variants.{Enter, Change, Delete}
 use Rattle.orders.specs.declared.refusal.Refusal.{Refusal}
 use Rattle.orders.specs.declared.terms.Terms.{Terms}
 use Rattle.orders.specs.declared.ticket.Ticket.{Ticket}
+use Rattle.engine.specs.declared.pre_call.PreCall.{PreCall}
 use Rattle.instructions.specs.Conservation.{Conserved}
 use Rattle.instructions.specs.Effects.{carried-answer, carried-book}
 use Rattle.instructions.specs.declared.effect.Effect.{Effect}
@@ -29,6 +31,10 @@ sent-answer g room i ts = answer-once (checked g i) room ts
 
 abbrev pub sent-book : Grid → ℕ → Instruction Ticket → List Terms → List Terms
 sent-book g room i ts = book-once (checked g i) room ts
+
+-- the grid of the phase
+abbrev pub grid-under : PreCall → Grid
+grid-under p = grid-of (p .settings)
 
 -- the order number that an instruction names
 abbrev pub named : Instruction Ticket → ℕ

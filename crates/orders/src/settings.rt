@@ -1,7 +1,6 @@
 // The settings of a market: its lot and its tick.
 ghost use mathlib.Core.Path.{_≡_};
 ghost use mathlib.Core.Bool.{true};
-ghost use Prim.Native.Nat.{_<_};
 ghost use Rattle.orders.specs.Ticks.{tick-of, valid-settings, grid, settings-answer};
 ghost use Rattle.orders.specs.Results.{seen};
 use crate::refusal::Refusal;
@@ -34,16 +33,9 @@ impl Settings {
         })
     }
 
-    pub fn lot(self) -> u16
-        ensures { λ r. ⌜ r ≡ self .lot ⌝ }
-    {
-        self.lot
-    }
-
     // The smallest step of a price.
     pub fn tick(self) -> u32
-        ensures value { λ r. ⌜ r ≡ tick-of (self .«tick_class») ⌝ }
-        ensures some { λ r. ⌜ 0 < r ⌝ }
+        ensures { λ r. ⌜ r ≡ tick-of (self .«tick_class») ⌝ }
     {
         let class = u32::from(self.tick_class);
         LEADS[(class % 3) as usize] * 10u32.pow(class / 3)

@@ -1,12 +1,8 @@
 // What a member sends for an order. Any numbers may come; a price of 0 is not given.
 use crate::terms::OrderType;
-use crate::terms::OrderTypeDebug;
-use crate::terms::OrderTypePartialEq;
 use crate::terms::Side;
-use crate::terms::SideDebug;
-use crate::terms::SidePartialEq;
 
-#[derive(Clone, Copy, PartialEq, Eq, Debug)]
+#[derive(Clone, Copy)]
 pub struct Ticket {
     pub number: u32,
     pub participant: u16,

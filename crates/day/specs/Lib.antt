@@ -1,0 +1,5 @@
+pub mod Answers
+pub mod Texts
+pub mod Days
+pub mod Laws
+pub mod Steps

@@ -1,0 +1,4 @@
+mod Backs
+mod Places
+mod Tokens
+mod Values

@@ -1,6 +1,0 @@
-use mathlib.Core.Path.{refl}
-use Rattle.row_table.proofs.Places.{table-kept}
-use Rattle.row_table.proofs.calls.RowStore.capacity.Needs as need
-
-pub returns : need.returns
-returns c = record { value = refl; kept = table-kept (c .args .self .now) }
