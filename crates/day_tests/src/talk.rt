@@ -1,0 +1,34 @@
+// A whole day as text.
+use day::answer::Answer;
+use day::answer::AnswerDisplay;
+use day::day::Day;
+use day_lines::reading::without_newline;
+use row_table::calls::RowBook;
+use row_table::calls::RowStore;
+use row_table::table::RowTable;
+use std::alloc::Global;
+use std::fmt::Write;
+use std::io::BufRead;
+use std::test::*;
+
+// What the day program prints for an input.
+pub fn talk(heap: Global, input: &[u8]) -> Result<String, Fail> {
+    let mut day = Day::new(RowTable::new(heap, 64)?);
+    let mut output = String::new(heap);
+    let mut rest = input;
+    let mut line = Vec::new(heap);
+    for _ in 0..input.len() {
+        line.clear();
+        if rest.read_until(b'\n', &mut line)? == 0 {
+            break;
+        }
+        match day.line(without_newline(line.as_slice())) {
+            Some(answer) => writeln!(output, "{answer}")?,
+            None => break,
+        }
+    }
+    if let Some(answer) = day.close() {
+        writeln!(output, "{answer}")?;
+    }
+    Ok(output)
+}
