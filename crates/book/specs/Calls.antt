@@ -10,23 +10,13 @@ use Rattle.std.specs.Options.{mapped}
 use Rattle.std.specs.declared.option.Option.{Option}
 use Rattle.std.specs.declared.option.Option.the-variants.{Some, None}
 use Rattle.std.specs.declared.result.Result.{Result}
-use Rattle.std.specs.declared.result.Result.the-variants.{Ok, Err}
+use Rattle.orders.specs.Answers.{answered, left}
 use Rattle.orders.specs.Told.{terms-of}
 use Rattle.orders.specs.declared.order.Order.{Order}
 use Rattle.orders.specs.declared.refusal.Refusal.{Refusal}
 use Rattle.orders.specs.declared.refusal.Refusal.the-variants.{NumberHeld, BookFull}
 use Rattle.orders.specs.declared.terms.Terms.{Terms}
 use Rattle.book.specs.Lists.{held, found, without, lowered, Sound}
-
--- what a call answers: its fault, or else x
-abbrev pub answered : {A : Type 0} → Option Refusal → A → Result A Refusal
-answered None x = Ok x
-answered (Some e) x = Err e
-
--- what a call leaves: y where it has no fault, and else x, which it found
-abbrev pub left : {A : Type 0} → Option Refusal → A → A → A
-left None x y = y
-left (Some e) x y = x
 
 -- why an order cannot be appended
 abbrev pub append-fault : ℕ → Terms → List Terms → Option Refusal

@@ -11,7 +11,7 @@ use Rattle.orders.specs.Ticks.{Grid}
 use Rattle.orders.specs.declared.instruction.Instruction.{Instruction}
 use Rattle.orders.specs.declared.refusal.Refusal.{Refusal}
 use Rattle.orders.specs.declared.terms.Terms.{Terms}
-use Rattle.book.specs.Calls.{answered, left}
+use Rattle.orders.specs.Answers.{answered, left}
 use Rattle.instructions.specs.Effects.{fault, effect, changed}
 use Rattle.instructions.specs.declared.effect.Effect.{Effect}
 use Rattle.engine.specs.PreCalls.{answer-once, book-once}

@@ -17,7 +17,8 @@ use Rattle.orders.specs.declared.refusal.Refusal.{Refusal}
 use Rattle.orders.specs.declared.refusal.Refusal.the-variants.{SideOrKind}
 use Rattle.orders.specs.declared.terms.Terms.{Terms}
 use Rattle.book.proofs.Laws.{held-found, held-gone, length-gone}
-use Rattle.book.specs.Calls.{answered, append-fault}
+use Rattle.orders.specs.Answers.{answered}
+use Rattle.book.specs.Calls.{append-fault}
 use Rattle.book.specs.Lists.{found, without, Sound}
 use Rattle.instructions.specs.Effects.{fault}
 use Rattle.instructions.specs.Steps.{owned}

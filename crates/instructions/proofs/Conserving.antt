@@ -17,7 +17,8 @@ use Rattle.orders.specs.declared.instruction.Instruction.the-variants.{Enter, C
 use Rattle.orders.specs.declared.refusal.Refusal.{Refusal}
 use Rattle.orders.specs.declared.terms.Terms.{Terms}
 use Rattle.book.proofs.Laws.{found-none, found-push, found-without, found-gone}
-use Rattle.book.specs.Calls.{answered, left, append-fault}
+use Rattle.orders.specs.Answers.{answered, left}
+use Rattle.book.specs.Calls.{append-fault}
 use Rattle.book.specs.Lists.{found, without, held, distinct, Sound}
 use Rattle.instructions.specs.Conservation.{Conserved, about}
 use Rattle.instructions.specs.Effects.{fault, effect, changed, carried-answer, carried-book, open-at, open-in}

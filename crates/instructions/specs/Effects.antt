@@ -12,7 +12,8 @@ use Rattle.orders.specs.declared.instruction.Instruction.the-variants.{Enter, C
 use Rattle.orders.specs.declared.refusal.Refusal.{Refusal}
 use Rattle.orders.specs.declared.refusal.Refusal.the-variants.{NumberUnknown, OtherParticipant, SideOrKind}
 use Rattle.orders.specs.declared.terms.Terms.{Terms}
-use Rattle.book.specs.Calls.{answered, left, append-fault}
+use Rattle.orders.specs.Answers.{answered, left}
+use Rattle.book.specs.Calls.{append-fault}
 use Rattle.book.specs.Lists.{found, without}
 use Rattle.instructions.specs.declared.effect.Effect.{Effect}
 

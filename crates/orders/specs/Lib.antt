@@ -1,4 +1,5 @@
 pub mod Results
+pub mod Answers
 pub mod Numbers
 pub mod Capacities
 pub mod Ticks

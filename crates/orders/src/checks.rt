@@ -21,7 +21,8 @@ fn is_identified(number: u32, participant: u16) -> bool
 }
 
 impl Settings {
-    fn is_on_lot(self, quantity: u32) -> bool
+    // Is this a quantity, and a multiple of the lot?
+    pub fn is_on_lot(self, quantity: u32) -> bool
         ensures { λ r. ⌜ r ≡ on-lot (grid-of self) quantity ⌝ }
     {
         is_quantity(quantity) && quantity % u32::from(self.lot) == 0

@@ -16,6 +16,8 @@ pub enum Refusal {
     // the side or the kind is not that of the order
     SideOrKind,
     BookFull,
+    LockedStockFull,
+    RequestListFull,
     // a day line that does not belong to the phase
     WrongPhase,
     // the lot or the tick class is out of range
@@ -39,6 +41,8 @@ impl Refusal {
             Refusal::OtherParticipant => 6,
             Refusal::SideOrKind => 7,
             Refusal::BookFull => 8,
+            Refusal::LockedStockFull => 9,
+            Refusal::RequestListFull => 10,
             Refusal::WrongPhase => 13,
             Refusal::Settings => 14,
             Refusal::Capacity => 15,

@@ -1,0 +1,3 @@
+// Quote requests, which wait for the Specialist.
+pub mod list;
+pub mod request;
