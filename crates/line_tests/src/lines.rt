@@ -12,7 +12,11 @@ fn next(seed: u32) -> u32 {
     seed.wrapping_mul(1_103_515_245).wrapping_add(12_345)
 }
 
-fn check_put(line: &mut WaitingLine<'_, u32>, queue: &mut VecDeque<u32>, record: u32) -> Result<(), Fail> {
+fn check_put(
+    line: &mut WaitingLine<'_, u32>,
+    queue: &mut VecDeque<u32>,
+    record: u32,
+) -> Result<(), Fail> {
     let answer = line.put(record, Refusal::LockedStockFull);
     if queue.len() == line.capacity() {
         return check_eq(answer, Err(Refusal::LockedStockFull));
@@ -72,7 +76,10 @@ fn slots_are_used_round() -> Result<(), Fail> {
         for record in [5, 6, 7] {
             line.put(record, Refusal::LockedStockFull)?;
         }
-        check_eq(line.put(8, Refusal::RequestListFull), Err(Refusal::RequestListFull))?;
+        check_eq(
+            line.put(8, Refusal::RequestListFull),
+            Err(Refusal::RequestListFull),
+        )?;
         check_eq(line.take(), Some(5))?;
         line.put(8, Refusal::RequestListFull)?;
         check_eq(line.at(2), Some(8))?;
@@ -89,7 +96,10 @@ fn slots_past_256_stay() -> Result<(), Fail> {
         for record in 0..256 {
             line.put(record, Refusal::LockedStockFull)?;
         }
-        check_eq(line.put(256, Refusal::LockedStockFull), Err(Refusal::LockedStockFull))?;
+        check_eq(
+            line.put(256, Refusal::LockedStockFull),
+            Err(Refusal::LockedStockFull),
+        )?;
         check_eq(line.take(), Some(0))?;
         line.put(256, Refusal::LockedStockFull)?;
         check_eq(line.at(255), Some(256))?;

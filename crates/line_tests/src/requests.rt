@@ -22,14 +22,26 @@ fn checks_in_order() -> Result<(), Fail> {
     let settings = Settings::new(10, 0)?;
     let mut slots = [request(1, 0); 2];
     let mut list = WaitingLine::new(&mut slots);
-    check_eq(enter(&mut list, settings, request(0, 5)), Err(Refusal::Identity))?;
+    check_eq(
+        enter(&mut list, settings, request(0, 5)),
+        Err(Refusal::Identity),
+    )?;
     for quantity in [1, 5, 15, 1_000_001, 1_000_010] {
-        check_eq(enter(&mut list, settings, request(7, quantity)), Err(Refusal::Quantity))?;
+        check_eq(
+            enter(&mut list, settings, request(7, quantity)),
+            Err(Refusal::Quantity),
+        )?;
     }
     check_eq(enter(&mut list, settings, request(7, 0)), Ok(()))?;
     check_eq(enter(&mut list, settings, request(8, 1_000_000)), Ok(()))?;
-    check_eq(enter(&mut list, settings, request(9, 5)), Err(Refusal::Quantity))?;
-    check_eq(enter(&mut list, settings, request(9, 10)), Err(Refusal::RequestListFull))?;
+    check_eq(
+        enter(&mut list, settings, request(9, 5)),
+        Err(Refusal::Quantity),
+    )?;
+    check_eq(
+        enter(&mut list, settings, request(9, 10)),
+        Err(Refusal::RequestListFull),
+    )?;
     check_eq(list.len(), 2)
 }
 

@@ -54,56 +54,91 @@ fn taken_off(shares: u32) -> Result<Effect, Refusal> {
     })
 }
 
-// Lot 10 and tick 10, and a book of 3 with order 1 of participant 7: a buy of 100 at 1,020.
-fn market(heap: Global) -> Result<(PreCall, RowTable), Fail> {
-    let phase = PreCall::new(Settings::new(10, 3)?);
-    let mut book = RowTable::new(heap, 3)?;
-    phase.enter(&mut book, buy(1, 100, 1_020))?;
-    Ok((phase, book))
+// A phase and a book, and instructions sent with the answer that is expected.
+#[derive(Drop)]
+struct Market {
+    phase: PreCall,
+    book: RowTable,
+}
+
+impl Market {
+    fn new(heap: Global, lot: u16, class: u32, capacity: usize) -> Result<Market, Fail> {
+        Ok(Market {
+            phase: PreCall::new(Settings::new(lot, class)?),
+            book: RowTable::new(heap, capacity)?,
+        })
+    }
+
+    // Lot 10 and tick 10, and a book of 3 with order 1 of participant 7: a buy of 100 at 1,020.
+    fn with_order_1(heap: Global) -> Result<Market, Fail> {
+        let mut market = Market::new(heap, 10, 3, 3)?;
+        market.enter(buy(1, 100, 1_020), added(100))?;
+        Ok(market)
+    }
+
+    fn enter(&mut self, ticket: Ticket, expected: Result<Effect, Refusal>) -> Result<(), Fail> {
+        check_eq(self.phase.enter(&mut self.book, ticket), expected)
+    }
+
+    fn change(&mut self, ticket: Ticket, expected: Result<Effect, Refusal>) -> Result<(), Fail> {
+        check_eq(self.phase.change(&mut self.book, ticket), expected)
+    }
+
+    fn delete(
+        &mut self,
+        number: u32,
+        participant: u16,
+        expected: Result<Effect, Refusal>,
+    ) -> Result<(), Fail> {
+        check_eq(
+            self.phase.delete(&mut self.book, number, participant),
+            expected,
+        )
+    }
+
+    // The book holds these numbers, in this sequence.
+    fn holds(&self, numbers: &[u32]) -> Result<(), Fail> {
+        check_eq(self.book.count(), numbers.len())?;
+        for (place, number) in numbers.iter().enumerate() {
+            let Some(order) = self.book.order_at(place) else {
+                return Err(Fail::new("no order"));
+            };
+            check_eq(order.terms().number, *number)?;
+        }
+        Ok(())
+    }
 }
 
 #[test]
 fn identity_comes_first(rt: LibcRuntime) -> Result<(), Fail> {
-    let (phase, mut book) = market(rt.alloc())?;
+    let mut market = Market::with_order_1(rt.alloc())?;
     let nobody = Ticket {
         participant: 0,
         ..buy(1, 5, 5)
     };
-    check_eq(phase.enter(&mut book, buy(0, 5, 5)), Err(Refusal::Identity))?;
-    check_eq(phase.enter(&mut book, nobody), Err(Refusal::Identity))?;
-    check_eq(
-        phase.change(&mut book, buy(0, 5, 5)),
-        Err(Refusal::Identity),
-    )?;
-    check_eq(phase.change(&mut book, nobody), Err(Refusal::Identity))?;
-    check_eq(phase.delete(&mut book, 0, 7), Err(Refusal::Identity))?;
-    check_eq(phase.delete(&mut book, 1, 0), Err(Refusal::Identity))?;
-    check_eq(book.count(), 1)
+    market.enter(buy(0, 5, 5), Err(Refusal::Identity))?;
+    market.enter(nobody, Err(Refusal::Identity))?;
+    market.change(buy(0, 5, 5), Err(Refusal::Identity))?;
+    market.change(nobody, Err(Refusal::Identity))?;
+    market.delete(0, 7, Err(Refusal::Identity))?;
+    market.delete(1, 0, Err(Refusal::Identity))?;
+    market.holds(&[1])
 }
 
 #[test]
 fn quantity_comes_before_price(rt: LibcRuntime) -> Result<(), Fail> {
-    let (phase, mut book) = market(rt.alloc())?;
+    let mut market = Market::with_order_1(rt.alloc())?;
     for quantity in [0, 1, 5, 15, 999_999, 1_000_001, 1_000_010, 4_294_967_290] {
-        check_eq(
-            phase.enter(&mut book, buy(1, quantity, 5)),
-            Err(Refusal::Quantity),
-        )?;
-        check_eq(
-            phase.change(&mut book, buy(2, quantity, 5)),
-            Err(Refusal::Quantity),
-        )?;
+        market.enter(buy(1, quantity, 5), Err(Refusal::Quantity))?;
+        market.change(buy(2, quantity, 5), Err(Refusal::Quantity))?;
     }
-    check_eq(
-        phase.enter(&mut book, buy(2, 1_000_000, 10)),
-        added(1_000_000),
-    )?;
-    check_eq(phase.enter(&mut book, buy(3, 10, 1_000_000_000)), added(10))
+    market.enter(buy(2, 1_000_000, 10), added(1_000_000))?;
+    market.enter(buy(3, 10, 1_000_000_000), added(10))
 }
 
 #[test]
 fn prices_of_each_type(rt: LibcRuntime) -> Result<(), Fail> {
-    let (phase, mut book) = market(rt.alloc())?;
+    let mut market = Market::with_order_1(rt.alloc())?;
     let wrong = [
         of_type(OrderType::Market, 10, 0),
         of_type(OrderType::Market, 0, 10),
@@ -121,18 +156,15 @@ fn prices_of_each_type(rt: LibcRuntime) -> Result<(), Fail> {
         of_type(OrderType::StopLimit, 10, 15),
     ];
     for ticket in wrong {
-        check_eq(phase.enter(&mut book, ticket), Err(Refusal::Price))?;
-        check_eq(
-            phase.enter(
-                &mut book,
-                Ticket {
-                    number: 1,
-                    ..ticket
-                },
-            ),
+        market.enter(ticket, Err(Refusal::Price))?;
+        market.enter(
+            Ticket {
+                number: 1,
+                ..ticket
+            },
             Err(Refusal::Price),
         )?;
-        check_eq(phase.change(&mut book, ticket), Err(Refusal::Price))?;
+        market.change(ticket, Err(Refusal::Price))?;
     }
     let right = [
         of_type(OrderType::Market, 0, 0),
@@ -141,102 +173,69 @@ fn prices_of_each_type(rt: LibcRuntime) -> Result<(), Fail> {
         of_type(OrderType::StopLimit, 10, 1_000_000_000),
     ];
     for ticket in right {
-        check_eq(phase.enter(&mut book, ticket), added(10))?;
-        check_eq(phase.delete(&mut book, 9, 7), taken_off(10))?;
+        market.enter(ticket, added(10))?;
+        market.delete(9, 7, taken_off(10))?;
     }
     Ok(())
 }
 
 #[test]
 fn held_comes_before_full(rt: LibcRuntime) -> Result<(), Fail> {
-    let (phase, mut book) = market(rt.alloc())?;
-    check_eq(
-        phase.enter(&mut book, buy(1, 10, 10)),
-        Err(Refusal::NumberHeld),
-    )?;
-    check_eq(phase.enter(&mut book, buy(2, 20, 10)), added(20))?;
-    check_eq(phase.enter(&mut book, buy(3, 30, 10)), added(30))?;
-    check_eq(
-        phase.enter(&mut book, buy(1, 10, 10)),
-        Err(Refusal::NumberHeld),
-    )?;
-    check_eq(
-        phase.enter(&mut book, buy(4, 10, 10)),
-        Err(Refusal::BookFull),
-    )?;
-    check_eq(book.count(), 3)
+    let mut market = Market::with_order_1(rt.alloc())?;
+    market.enter(buy(1, 10, 10), Err(Refusal::NumberHeld))?;
+    market.enter(buy(2, 20, 10), added(20))?;
+    market.enter(buy(3, 30, 10), added(30))?;
+    market.enter(buy(1, 10, 10), Err(Refusal::NumberHeld))?;
+    market.enter(buy(4, 10, 10), Err(Refusal::BookFull))?;
+    market.holds(&[1, 2, 3])
 }
 
 #[test]
 fn unknown_then_owner_then_form(rt: LibcRuntime) -> Result<(), Fail> {
-    let (phase, mut book) = market(rt.alloc())?;
+    let mut market = Market::with_order_1(rt.alloc())?;
     let sell = Ticket {
         side: Side::Sell,
         ..buy(1, 10, 10)
     };
-    check_eq(
-        phase.change(&mut book, buy(2, 10, 10)),
-        Err(Refusal::NumberUnknown),
-    )?;
-    check_eq(phase.delete(&mut book, 2, 7), Err(Refusal::NumberUnknown))?;
-    check_eq(
-        phase.change(
-            &mut book,
-            Ticket {
-                participant: 8,
-                ..sell
-            },
-        ),
-        Err(Refusal::OtherParticipant),
-    )?;
-    check_eq(
-        phase.delete(&mut book, 1, 8),
-        Err(Refusal::OtherParticipant),
-    )?;
-    check_eq(phase.change(&mut book, sell), Err(Refusal::SideOrKind))?;
+    market.change(buy(2, 10, 10), Err(Refusal::NumberUnknown))?;
+    market.delete(2, 7, Err(Refusal::NumberUnknown))?;
+    let of_another = Ticket {
+        participant: 8,
+        ..sell
+    };
+    market.change(of_another, Err(Refusal::OtherParticipant))?;
+    market.delete(1, 8, Err(Refusal::OtherParticipant))?;
+    market.change(sell, Err(Refusal::SideOrKind))?;
     for other in [
         of_type(OrderType::Market, 0, 0),
         of_type(OrderType::StopMarket, 0, 10),
         of_type(OrderType::StopLimit, 10, 10),
     ] {
-        check_eq(
-            phase.change(&mut book, Ticket { number: 1, ..other }),
-            Err(Refusal::SideOrKind),
-        )?;
+        market.change(Ticket { number: 1, ..other }, Err(Refusal::SideOrKind))?;
     }
-    check_eq(book.count(), 1)
+    market.holds(&[1])
 }
 
 #[test]
 fn change_goes_to_the_end(rt: LibcRuntime) -> Result<(), Fail> {
-    let (phase, mut book) = market(rt.alloc())?;
-    check_eq(phase.enter(&mut book, buy(2, 20, 10)), added(20))?;
-    check_eq(phase.change(&mut book, buy(1, 130, 1_000)), added(30))?;
-    check_eq(phase.change(&mut book, buy(1, 130, 1_010)), added(0))?;
-    check_eq(phase.change(&mut book, buy(2, 10, 10)), taken_off(10))?;
-    let numbers = [1, 2];
-    for (place, number) in numbers.iter().enumerate() {
-        let Some(order) = book.order_at(place) else {
-            return Err(Fail::new("no order"));
-        };
-        check_eq(order.terms().number, *number)?;
-    }
-    check_eq(phase.delete(&mut book, 1, 7), taken_off(130))?;
-    check_eq(phase.delete(&mut book, 1, 7), Err(Refusal::NumberUnknown))?;
-    check_eq(book.count(), 1)
+    let mut market = Market::with_order_1(rt.alloc())?;
+    market.enter(buy(2, 20, 10), added(20))?;
+    market.change(buy(1, 130, 1_000), added(30))?;
+    market.change(buy(1, 130, 1_010), added(0))?;
+    market.change(buy(2, 10, 10), taken_off(10))?;
+    market.holds(&[1, 2])?;
+    market.delete(1, 7, taken_off(130))?;
+    market.delete(1, 7, Err(Refusal::NumberUnknown))?;
+    market.holds(&[2])
 }
 
 #[test]
 fn book_of_one(rt: LibcRuntime) -> Result<(), Fail> {
-    let phase = PreCall::new(Settings::new(1, 0)?);
-    let mut book = RowTable::new(rt.alloc(), 1)?;
-    check_eq(phase.enter(&mut book, buy(1, 5, 7)), added(5))?;
-    check_eq(phase.enter(&mut book, buy(2, 5, 7)), Err(Refusal::BookFull))?;
-    check_eq(
-        phase.enter(&mut book, buy(1, 5, 7)),
-        Err(Refusal::NumberHeld),
-    )?;
-    check_eq(phase.change(&mut book, buy(1, 6, 8)), added(1))?;
-    check_eq(phase.delete(&mut book, 1, 7), taken_off(6))?;
-    check_eq(phase.enter(&mut book, buy(2, 5, 7)), added(5))
+    let mut market = Market::new(rt.alloc(), 1, 0, 1)?;
+    market.enter(buy(1, 5, 7), added(5))?;
+    market.enter(buy(2, 5, 7), Err(Refusal::BookFull))?;
+    market.enter(buy(1, 5, 7), Err(Refusal::NumberHeld))?;
+    market.change(buy(1, 6, 8), added(1))?;
+    market.delete(1, 7, taken_off(6))?;
+    market.enter(buy(2, 5, 7), added(5))
 }
