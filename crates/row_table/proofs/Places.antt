@@ -1,14 +1,14 @@
 -- What the place of a number says of the list, and what the rows of a table say of the list that it means.
-use mathlib.Core.Bool.{Bool, true, false, cond, _||_}
-use mathlib.Core.List.{List, [], _∷_, _++_, map}
+use mathlib.Core.Bool.{true}
+use mathlib.Core.List.{List, [], _∷_, map}
 use mathlib.Core.Logic.{⊎-elim}
 use mathlib.Core.Path.{_≡_, refl, sym, ap, _∙_}
-use Prim.Native.Nat.{ℕ, zero, suc, _+_, _<_, _≤_}
+use Prim.Native.Nat.{ℕ, suc, _+_, _<_, _≤_}
 use native.Mathlib.Omega.{arith}
 use lib.Dec.{eqb, ltb}
 use lib.ListN.{length, take, drop, set, getD}
 use Rattle.std.proofs.shelf.Elements.{all-map}
-use Rattle.std.proofs.shelf.Lists.{take-map, drop-map, map-append, length-map, drop-more, getD-map, map-push, map-set}
+use Rattle.std.proofs.shelf.Lists.{take-map, drop-map, map-append, length-map, drop-more, getD-map, map-set}
 use Rattle.std.proofs.shelf.Maps.{nth-getD, nth-past}
 use Rattle.std.proofs.shelf.Tests.{eq-eqb, ne-eqb, lt-ltb, le-ltb, cases-bool}
 use Rattle.std.proofs.shelf.Ways.{tells}
@@ -18,15 +18,15 @@ use Rattle.std.specs.Of.Vec.{vec-items, vec-len}
 use Rattle.std.specs.declared.alloc.Global.{Global}
 use Rattle.std.specs.declared.option.Option.the-variants.{Some, None}
 use Rattle.std.specs.declared.vec.Vec.{Vec}
-use Rattle.std.specs.shelf.Lists.{All}
 use Rattle.orders.specs.Ranges.{in-range, with-quantity}
 use Rattle.orders.specs.Told.{terms-of}
 use Rattle.orders.specs.declared.order.Order.{Order}
 use Rattle.orders.specs.declared.terms.Terms.{Terms}
+use Rattle.book.proofs.General.{all-of}
 use Rattle.book.proofs.Laws.{without-none}
 use Rattle.book.proofs.Reading.{Stands}
 use Rattle.book.specs.Calls.{Kept}
-use Rattle.book.specs.Lists.{held, found, without, lowered, distinct, Sound}
+use Rattle.book.specs.Lists.{held, found, without, lowered, distinct}
 use Rattle.row_table.specs.Rows.{place-of, rows-of}
 use Rattle.row_table.specs.declared.table.RowTable.{RowTable}
 
@@ -67,10 +67,6 @@ row-stands xs i o h e =
 pub rows-length : (v : Vec Order Global) → vec-len v ≡ length (map terms-of (vec-items v))
 rows-length v = v .ok .0 ∙ sym (length-map (vec-items v) terms-of)
 
-ranges : (os : List Order) → All (λ o. in-range (terms-of o) ≡ true) os
-ranges [] = tt
-ranges (o ∷ os) = (o .ranged, ranges os)
-
 pub rows-kept : (os : List Order) (room : ℕ) → room ≤ 256 → length os ≤ room → distinct (map terms-of os) ≡ true → Kept room room (map terms-of os)
 rows-kept os room most within apart =
     let l = length-map os terms-of in
@@ -78,7 +74,7 @@ rows-kept os room most within apart =
       same = refl;
       most = most;
       within = omega arith;
-      sound = record { few = omega arith; apart = apart; ranged = all-map (λ t. in-range t ≡ true) terms-of os (ranges os) };
+      sound = record { few = omega arith; apart = apart; ranged = all-map (λ t. in-range t ≡ true) terms-of os (all-of (λ o. in-range (terms-of o) ≡ true) (λ o. o .ranged) os) };
     }
 
 pub table-kept : (t : RowTable) → Kept (t .capacity) (t .capacity) (rows-of t)
@@ -120,12 +116,3 @@ not-found n ts h = sym (found-at n ts ∙ nth-past ts (place-of n ts) h)
 
 pub not-removed : (n : ℕ) (ts : List Terms) → length ts ≤ place-of n ts → ts ≡ without n ts
 not-removed n ts h = sym (without-none n ts (held-at n ts ∙ le-ltb _ _ h))
-
--- an answer that a test gives or withholds
-pub given : {X : Type 0} (b : Bool) (x y : X) → Some x ≡ cond b (Some y) None → (b ≡ true) × (x ≡ y)
-given true x y e = (refl, cc)
-given false x y e = let z : _≡_ {A = ℕ} 0 1 = cc in absurd (omega arith)
-
-pub withheld : {X : Type 0} (b : Bool) (y : X) → None ≡ cond b (Some y) None → b ≡ false
-withheld true y e = let z : _≡_ {A = ℕ} 0 1 = cc in absurd (omega arith)
-withheld false y e = refl

@@ -1,20 +1,18 @@
-use mathlib.Core.Bool.{Bool, true, _&&_}
+use mathlib.Core.Bool.{true}
 use mathlib.Core.List.{map}
-use mathlib.Core.Path.{_≡_, refl, sym, ap, _∙_}
+use mathlib.Core.Path.{_≡_, sym, ap, _∙_}
 use Prim.Native.Nat.{_≤_}
 use native.Mathlib.Omega.{arith}
-use lib.Dec.{leb}
 use lib.ListN.{length, set, length-set}
 use Rattle.std.specs.Of.Vec.{vec-items}
-use Rattle.std.specs.declared.option.Option.the-variants.{Some, None}
 use Rattle.orders.specs.Ranges.{with-quantity}
 use Rattle.orders.specs.Told.{terms-of}
 use Rattle.orders.specs.declared.order.Order.{Order}
+use Rattle.book.proofs.General.{given, withheld}
 use Rattle.book.proofs.Laws.{distinct-lowered}
-use Rattle.book.specs.Calls.{up-to-open}
-use Rattle.book.specs.Lists.{found, lowered, distinct}
+use Rattle.book.specs.Lists.{lowered, distinct}
 use Rattle.row_table.specs.Rows.{rows-of, place-of}
-use Rattle.row_table.proofs.Places.{Found, row-found, row-lowered, not-found, given, withheld, rows-length, rows-kept, table-kept}
+use Rattle.row_table.proofs.Places.{Found, row-found, row-lowered, not-found, rows-length, rows-kept, table-kept}
 use Rattle.row_table.proofs.table.RowTable.reduce.Needs as need
 use Rattle.row_table.proofs.table.RowTable.reduce.Needs.{After-index}
 
