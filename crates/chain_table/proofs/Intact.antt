@@ -1,5 +1,5 @@
 -- What holds of a table, with its rows in use and its free rows as lists.
-use mathlib.Core.Bool.{true, false}
+use mathlib.Core.Bool.{true}
 use mathlib.Core.List.{List, _∷_, _++_, map}
 use mathlib.Core.Logic.{⊎-elim}
 use mathlib.Core.Path.{_≡_, refl, sym, ap, subst, _∙_}
@@ -22,7 +22,7 @@ use Rattle.chain_table.specs.Rows.{rows-of}
 use Rattle.chain_table.specs.Steps.{path-of, Spot}
 use Rattle.chain_table.specs.declared.chain.Chain.{Chain}
 use Rattle.chain_table.specs.declared.table.ChainTable.{ChainTable}
-use Rattle.chain_table.proofs.Indices.{all-parts, all-among, past-off, Below, from-below, to-below}
+use Rattle.chain_table.proofs.Indices.{all-parts, all-among, Below, from-below, to-below}
 use Rattle.chain_table.proofs.Walks.{Linked, from-linked, to-linked, length-walk, walk-linked, first-of, step-of, last-among}
 
 -- the rows xs are in use and tell ts, and the rows sp are free
@@ -84,10 +84,6 @@ module _ {c : Chain} {count free capacity : ℕ} {xs sp : List ℕ} {ts : List T
   below : Below (vec-len (c .rows)) xs
   below = all-parts (λ x. x < vec-len (c .rows)) xs sp (s .present) .0
 
-  -- no row is the end
-  pub end-off : among 256 xs ≡ false
-  end-off = past-off (vec-len (c .rows)) 256 xs (omega (arith, s .most, s .within)) below
-
   pub last-spot : Spot c (prev c 256)
   last-spot = spot c (prev c 256) xs below (last-among (next c) (prev c) 256 xs 256 (s .link))
 
@@ -110,28 +106,13 @@ module _ {c : Chain} {count free capacity : ℕ} {ts : List Terms} (h : Holding 
       let s = h .intact in
       let few : vec-len (c .rows) - count ≡ length (h .spare) = omega (arith, s .total) in
       let spare : free-rows c free count ≡ h .spare = ap (λ n. walk (next c) n free) few ∙ s .frees in
-      let all : used-rows c count ++ free-rows c free count ≡ h .used ++ h .spare = ap (λ l. l ++ free-rows c free count) path-is ∙ ap (λ l. h .used ++ l) spare in (
-        s .most,
-        (
-          s .within,
-          (
-            s .reserved,
-            (
-              omega (arith, s .total),
-              (
-                ap (linked-both-ways c) path-is ∙ to-linked (next c) (prev c) 256 (h .used) 256 (s .link),
-                (
-                  ap no-row-twice all ∙ s .once,
-                  (
-                    ap (all-below (vec-len (c .rows))) all ∙ to-below (vec-len (c .rows)) (h .used ++ h .spare) (s .present),
-                    (ap distinct list-is ∙ s .apart, tt),
-                  ),
-                ),
-              ),
-            ),
-          ),
-        ),
-      )
+      let all : used-rows c count ++ free-rows c free count ≡ h .used ++ h .spare = ap (λ l. l ++ free-rows c free count) path-is ∙ ap (λ l. h .used ++ l) spare in
+      let counted : count ≤ vec-len (c .rows) = omega (arith, s .total) in
+      let linked = ap (linked-both-ways c) path-is ∙ to-linked (next c) (prev c) 256 (h .used) 256 (s .link) in
+      let once = ap no-row-twice all ∙ s .once in
+      let present = ap (all-below (vec-len (c .rows))) all ∙ to-below (vec-len (c .rows)) (h .used ++ h .spare) (s .present) in
+      let apart = ap distinct list-is ∙ s .apart in
+      (s .most, (s .within, (s .reserved, (counted, (linked, (once, (present, (apart, tt))))))))
 
   pub kept : (room : ℕ) → capacity ≡ room → Kept room capacity (rows-told c count)
   kept room e =

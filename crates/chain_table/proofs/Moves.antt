@@ -10,7 +10,6 @@ use Rattle.std.proofs.shelf.Lists.{append-assoc, append-nil, length-append, map
 use Rattle.std.proofs.shelf.Tests.{or-from, ne-eqb}
 use Rattle.std.specs.Of.Vec.{vec-len, vec-cap}
 use Rattle.orders.specs.declared.terms.Terms.{Terms}
-use Rattle.book.proofs.General.{all-of}
 use Rattle.book.specs.Lists.{distinct}
 use Rattle.chain_table.specs.Chains.{links-at, next, prev, terms-at, walk, among, no-row-twice}
 use Rattle.chain_table.specs.Steps.{Spot, Led, Relinked, Joined, Refilled, Pushed}
@@ -18,24 +17,14 @@ use Rattle.chain_table.specs.declared.chain.Chain.{Chain}
 use Rattle.chain_table.specs.declared.chain.Links.{Links}
 use Rattle.chain_table.proofs.Indices.{other, among-parts, once-from, once-front, once-out, once-in, once-sides, all-parts, past-off, Below}
 use Rattle.chain_table.proofs.Intact.{Intact, spot}
-use Rattle.chain_table.proofs.Walks.{Alike, Linked, first-among, last-among, linked-split, alike-off, map-alike, walk-alike, linked-alike, bypass, attach}
+use Rattle.chain_table.proofs.Walks.{Alike, Linked, first-among, last-among, linked-split, alike-all, alike-off, map-alike, walk-alike, linked-alike, bypass, attach}
 
--- a link of chains whose links are the same, or the same but at one place
-links-same : (h : Links → ℕ) (c d : Chain) → ((i : ℕ) → links-at d i ≡ links-at c i) → (xs : List ℕ) → Alike (λ i. h (links-at c i)) (λ i. h (links-at d i)) xs
-links-same h c d e = all-of (λ i. h (links-at d i) ≡ h (links-at c i)) (λ i. ap h (e i))
+-- chains whose links are alike, one link of each, and both
+link-alike : (h : Links → ℕ) (c d : Chain) (xs : List ℕ) → Alike (links-at c) (links-at d) xs → Alike (λ i. h (links-at c i)) (λ i. h (links-at d i)) xs
+link-alike h c d = all-weaker (λ i. links-at d i ≡ links-at c i) (λ i. h (links-at d i) ≡ h (links-at c i)) (λ i e. ap h e)
 
-links-off : (h : Links → ℕ) (c d : Chain) (p : ℕ) → ((i : ℕ) → (i ≡ p → ⊥) → links-at d i ≡ links-at c i) → (xs : List ℕ) → among p xs ≡ false → Alike (λ i. h (links-at c i)) (λ i. h (links-at d i)) xs
-links-off h c d p e = alike-off (λ i. h (links-at c i)) (λ i. h (links-at d i)) p (λ i k. ap h (e i k))
-
-chain-same : (c d : Chain) → ((i : ℕ) → links-at d i ≡ links-at c i) → (xs : List ℕ) → Linked (next c) (prev c) 256 xs 256 → Linked (next d) (prev d) 256 xs 256
-chain-same c d e xs = linked-alike (next c) (next d) (prev c) (prev d) 256 xs 256 (links-same (λ l. l .after) c d e (256 ∷ xs)) (links-same (λ l. l .before) c d e (256 ∷ xs))
-
-chain-off : (c d : Chain) (p : ℕ) → ((i : ℕ) → (i ≡ p → ⊥) → links-at d i ≡ links-at c i) → (xs : List ℕ) → among p (256 ∷ xs) ≡ false → Linked (next c) (prev c) 256 xs 256 → Linked (next d) (prev d) 256 xs 256
-chain-off c d p e xs h = linked-alike (next c) (next d) (prev c) (prev d) 256 xs 256 (links-off (λ l. l .after) c d p e (256 ∷ xs) h) (links-off (λ l. l .before) c d p e (256 ∷ xs) h)
-
--- chains with the same terms
-told-same : (c d : Chain) → ((i : ℕ) → terms-at d i ≡ terms-at c i) → (xs : List ℕ) → map (terms-at d) xs ≡ map (terms-at c) xs
-told-same c d e xs = map-alike (terms-at c) (terms-at d) xs (all-of (λ i. terms-at d i ≡ terms-at c i) e xs)
+chain-alike : (c d : Chain) (xs : List ℕ) → Alike (links-at c) (links-at d) (256 ∷ xs) → Linked (next c) (prev c) 256 xs 256 → Linked (next d) (prev d) 256 xs 256
+chain-alike c d xs e = linked-alike (next c) (next d) (prev c) (prev d) 256 xs 256 (link-alike (λ l. l .after) c d (256 ∷ xs) e) (link-alike (λ l. l .before) c d (256 ∷ xs) e)
 
 -- a walk that gives sp still does
 walk-kept : (f f′ : ℕ → ℕ) (sp : List ℕ) (i : ℕ) → Alike f f′ sp → walk f (length sp) i ≡ sp → walk f′ (length sp) i ≡ sp
@@ -74,11 +63,11 @@ module _ {c : Chain} {count free capacity : ℕ} (xs : List ℕ) (i : ℕ) (ys s
       let o = among-parts i (xs ++ ys) sp off in
       let apart = off-end i (xs ++ ys) (omega (arith, row-made)) (o .0) in
       let link1 : Linked (next c1) (prev c1) 256 (xs ++ ys) 256 = bypass 256 xs i ys 256 (j .led) (once-front (256 ∷ (xs ++ ys)) sp whole) (among-parts 256 (xs ++ ys) sp end .0) (s .link) in
-      let link2 = chain-off c1 c2 i (a .off) (xs ++ ys) apart link1 in
+      let link2 = chain-alike c1 c2 (xs ++ ys) (alike-off (links-at c1) (links-at c2) i (a .off) (256 ∷ (xs ++ ys)) apart) link1 in
       let last = last-among (next c) (prev c) 256 xs i (linked-split (next c) (prev c) 256 xs i ys 256 (s .link) .0) in
       let past = among-parts (prev c i) ys sp (once-sides (prev c i) (256 ∷ xs) (ys ++ sp) (subst (λ z. no-row-twice (256 ∷ z) ≡ true) asc whole) last) .1 in
       let free1 = walk-kept (next c) (next c1) sp free (alike-off (next c) (next c1) (prev c i) (j .led .ahead-off) sp past) (s .frees) in
-      let free2 = walk-kept (next c1) (next c2) sp free (links-off (λ z. z .after) c1 c2 i (a .off) sp (o .1)) free1 in
+      let free2 = walk-kept (next c1) (next c2) sp free (link-alike (λ z. z .after) c1 c2 sp (alike-off (links-at c1) (links-at c2) i (a .off) sp (o .1))) free1 in
       let len : vec-len (c2 .rows) ≡ n = a .same .len ∙ j .same .len in
       let cap : vec-cap (c2 .rows) ≡ vec-cap (c .rows) = a .same .cap ∙ j .same .cap in
       let lx = length-append xs (i ∷ ys) in
@@ -94,7 +83,7 @@ module _ {c : Chain} {count free capacity : ℕ} (xs : List ℕ) (i : ℕ) (ys s
         frees = ap (λ z. i ∷ walk (next c2) (length sp) z) (ap (λ z. z .after) (a .here) ∙ e) ∙ ap (λ z. i ∷ z) free2;
         once = once-in (xs ++ ys) i sp off once;
         present = subst (λ z. Below z ((xs ++ ys) ++ i ∷ sp)) (sym len) (all-append (λ x. x < n) (xs ++ ys) (i ∷ sp) (m .0) (row-made, m .1));
-        told = told-same c c2 (λ k. a .same .told k ∙ j .same .told k) (xs ++ ys);
+        told = map-alike (terms-at c) (terms-at c2) (xs ++ ys) (alike-all (terms-at c) (terms-at c2) (λ k. a .same .told k ∙ j .same .told k) (xs ++ ys));
         apart = d;
       }
 
@@ -115,7 +104,7 @@ grow {c} {d} {count} {free} {capacity} {xs} {ts} s h p =
       reserved = omega (arith, p .cap, s .reserved);
       long = s .long;
       total = omega (arith, p .len);
-      link = chain-off c d n (p .links) xs out (s .link);
+      link = chain-alike c d xs (alike-off (links-at c) (links-at d) n (p .links) (256 ∷ xs) out) (s .link);
       frees = refl;
       once = once-in xs count [] (ap (among count) nil ∙ ap (λ z. among z xs) same ∙ off) (s .once);
       present = all-append (λ x. x < vec-len (d .rows)) xs (count ∷ []) wider (omega (arith, p .len), tt);
@@ -137,10 +126,11 @@ enter {c} {c0} {c1} {c2} {count} {capacity} xs i sp {ts} {t} s r j k d =
     let last0 : prev c0 256 ≡ prev c 256 = ap (λ l. l .before) (r .links 256) in
     let led = subst (λ z. Led (next c0) (next c1) (prev c0) (prev c1) z i) (sym last0) (j .led) in
     let apart = or-from _ _ (ne-eqb i 256 (omega arith)) (among-parts 256 xs (i ∷ sp) end .0) in
+    let link0 = chain-alike c c0 xs (alike-all (links-at c) (links-at c0) (r .links) (256 ∷ xs)) (s .link) in
     let last = last-among (next c) (prev c) 256 xs 256 (s .link) in
     let past = other (prev c 256) i sp (once-sides (prev c 256) (256 ∷ xs) (i ∷ sp) whole last) .1 in
     let frees : walk (next c) (length sp) (next c i) ≡ sp = cc (s .frees) in
-    let free0 = walk-kept (next c) (next c0) sp (next c i) (links-same (λ l. l .after) c c0 (r .links) sp) frees in
+    let free0 = walk-kept (next c) (next c0) sp (next c i) (link-alike (λ l. l .after) c c0 sp (alike-all (links-at c) (links-at c0) (r .links) sp)) frees in
     let free1 = walk-kept (next c0) (next c1) sp (next c i) (alike-off (next c0) (next c1) (prev c 256) (j .led .ahead-off) sp past) free0 in
     let len : vec-len (c2 .rows) ≡ n = k .same .len ∙ j .same .len ∙ r .len in
     let cap : vec-cap (c2 .rows) ≡ vec-cap (c .rows) = k .same .cap ∙ j .same .cap ∙ r .cap in
@@ -152,12 +142,12 @@ enter {c} {c0} {c1} {c2} {count} {capacity} xs i sp {ts} {t} s r j k d =
       reserved = omega (arith, s .reserved);
       long = omega (arith, s .long);
       total = omega (arith, s .total);
-      link = attach 256 xs 256 i led (k .led) (once-front (256 ∷ xs) (i ∷ sp) whole) (off-end i xs (omega arith) (o .0)) apart (chain-same c c0 (r .links) xs (s .link));
+      link = attach 256 xs 256 i led (k .led) (once-front (256 ∷ xs) (i ∷ sp) whole) (off-end i xs (omega arith) (o .0)) apart link0;
       frees = walk-kept (next c1) (next c2) sp (next c i) (alike-off (next c1) (next c2) i (k .led .ahead-off) sp (o .1)) free1;
       once = ap no-row-twice asc ∙ s .once;
       present = subst (λ z. Below z ((xs ++ i ∷ []) ++ sp)) (sym len) (subst (λ z. Below n z) (sym asc) (s .present));
       told =
-          told-same c0 c2 (λ m. k .same .told m ∙ j .same .told m) (xs ++ i ∷ [])
+          map-alike (terms-at c0) (terms-at c2) (xs ++ i ∷ []) (alike-all (terms-at c0) (terms-at c2) (λ m. k .same .told m ∙ j .same .told m) (xs ++ i ∷ []))
           ∙ map-push (terms-at c0) xs i
           ∙ ap (λ z. z ++ terms-at c0 i ∷ []) (map-alike (terms-at c) (terms-at c0) xs (alike-off (terms-at c) (terms-at c0) i (r .off) xs (o .0)) ∙ s .told)
           ∙ ap (λ z. ts ++ z ∷ []) (r .here);
@@ -174,8 +164,8 @@ rewrite {c} {d} {count} {free} {capacity} {xs} {sp} s r told apart =
       reserved = omega (arith, s .reserved, r .cap);
       long = s .long;
       total = omega (arith, s .total, r .len);
-      link = chain-same c d (r .links) xs (s .link);
-      frees = walk-kept (next c) (next d) sp free (links-same (λ l. l .after) c d (r .links) sp) (s .frees);
+      link = chain-alike c d xs (alike-all (links-at c) (links-at d) (r .links) (256 ∷ xs)) (s .link);
+      frees = walk-kept (next c) (next d) sp free (link-alike (λ l. l .after) c d sp (alike-all (links-at c) (links-at d) (r .links) sp)) (s .frees);
       once = s .once;
       present = subst (λ z. Below z (xs ++ sp)) (sym (r .len)) (s .present);
       told = told;

@@ -8,7 +8,7 @@ use lib.ListN.{getD, drop}
 use Rattle.std.proofs.shelf.Lists.{drop-more, nil-from-length}
 use Rattle.std.proofs.shelf.Tests.{eq-eqb, ne-eqb}
 use Rattle.std.specs.Of.Vec.{vec-len, vec-items}
-use Rattle.std.specs.declared.option.Option.the-variants.{None}
+use Rattle.std.specs.declared.option.Option.the-variants.{Some, None}
 use Rattle.orders.specs.Ranges.{with-quantity}
 use Rattle.orders.specs.declared.terms.Terms.{Terms}
 use Rattle.book.proofs.Laws.{distinct-push, distinct-without, distinct-lowered}
@@ -21,7 +21,7 @@ use Rattle.chain_table.specs.declared.chain.Links.{Links}
 use Rattle.chain_table.specs.declared.chain.Row.{Row}
 use Rattle.chain_table.specs.declared.table.ChainTable.{ChainTable}
 use Rattle.chain_table.proofs.Indices.{once-front, once-out, all-parts}
-use Rattle.chain_table.proofs.Intact.{Intact, Holding, opened, end-off, path-row, path-step}
+use Rattle.chain_table.proofs.Intact.{Intact, Holding, opened, path-row, path-step}
 use Rattle.chain_table.proofs.Moves.{row-made, before-spot, after-spot, leave, grow, enter, rewrite}
 use Rattle.chain_table.proofs.Seeks.{Seen, seen, unseen}
 use Rattle.chain_table.proofs.Writes.{row-links, row-told}
@@ -46,11 +46,11 @@ next-there {t} {k} {at} {r} p =
     ∙ path-step t k (p .within)
 
 -- a search that has come to a place of the path
-pub seek-here : {t : ChainTable} {k at : ℕ} {r : Row} (n : ℕ) → On-path t k at r → told-by r .number ≡ n → first-with n (terms-at (t .chain)) (drop k (path-of t)) ≡ at
+pub seek-here : {t : ChainTable} {k at : ℕ} {r : Row} (n : ℕ) → On-path t k at r → told-by r .number ≡ n → first-with n (terms-at (t .chain)) (drop k (path-of t)) ≡ Some at
 seek-here {t} {k} n p e =
     let l = opened t .long in
     let same = eq-eqb _ _ (ap (λ x. x .number) (sym (told-there p)) ∙ e) in
-    rw (drop-more (path-of t) k 256 (omega (arith, p .within)), same) (sym (p .here))
+    rw (drop-more (path-of t) k 256 (omega (arith, p .within)), same) (ap Some (sym (p .here)))
 
 pub seek-next : {t : ChainTable} {k at : ℕ} {r : Row} (n : ℕ) → On-path t k at r → (told-by r .number ≡ n → ⊥) → first-with n (terms-at (t .chain)) (drop k (path-of t)) ≡ first-with n (terms-at (t .chain)) (drop (k + 1) (path-of t))
 seek-next {t} {k} n p e =
@@ -59,13 +59,13 @@ seek-next {t} {k} n p e =
     rw (drop-more (path-of t) k 256 (omega (arith, p .within)), other)
 
 -- the number is not held
-pub none-at : (t : ChainTable) (n at : ℕ) → at ≡ row-holding n t → at ≡ 256 → found n (rows-of t) ≡ None
-none-at t n at e h = unseen n (terms-at (t .chain)) (path-of t) (end-off (opened t)) (sym e ∙ h)
+pub none-at : (t : ChainTable) (n : ℕ) → None ≡ row-holding n t → found n (rows-of t) ≡ None
+none-at t n h = unseen n (terms-at (t .chain)) (path-of t) h
 
 -- the number is held in the row at
 module _ {t : ChainTable} {n at : ℕ} (h : Holds t n at) where
   pub seen-at : Seen n (terms-at (t .chain)) at (path-of t)
-  seen-at = subst (λ i. Seen n (terms-at (t .chain)) i (path-of t)) (sym (h .found)) (seen n (terms-at (t .chain)) (path-of t) (λ k. h .used (h .found ∙ k)))
+  seen-at = seen n (terms-at (t .chain)) (path-of t) at (h .is)
 
   split-at : Intact (t .chain) (t .count) (t .free) (t .capacity) (seen-at .front ++ at ∷ seen-at .back) (spare-of t) (rows-of t)
   split-at = subst (λ l. Intact (t .chain) (t .count) (t .free) (t .capacity) l (spare-of t) (rows-of t)) (seen-at .split) (opened t)

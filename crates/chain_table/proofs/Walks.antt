@@ -9,6 +9,7 @@ use lib.ListN.{length, getD}
 use Rattle.std.proofs.shelf.Lists.{append-nil}
 use Rattle.std.proofs.shelf.Tests.{and-parts, and-from, or-left, or-right, eq-eqb, eqb-true, both-ways}
 use Rattle.std.specs.shelf.Lists.{All}
+use Rattle.book.proofs.General.{all-of}
 use Rattle.chain_table.specs.Chains.{walk, linked-through, among, no-row-twice}
 use Rattle.chain_table.specs.Steps.{Led}
 use Rattle.chain_table.proofs.Indices.{other, among-parts, once-parts, once-front, once-out, once-sides}
@@ -68,6 +69,9 @@ linked-append f g a (x ∷ xs) i ys b h k = (h .0, h .1, linked-append f g x xs 
 -- functions that are alike on a list
 abbrev pub Alike : {Y : Type 0} → (ℕ → Y) → (ℕ → Y) → List ℕ → Type 0
 Alike f f′ xs = All (λ j. f′ j ≡ f j) xs
+
+pub alike-all : {Y : Type 0} (f f′ : ℕ → Y) → ((j : ℕ) → f′ j ≡ f j) → (xs : List ℕ) → Alike f f′ xs
+alike-all f f′ k = all-of (λ j. f′ j ≡ f j) k
 
 pub alike-off : {Y : Type 0} (f f′ : ℕ → Y) (p : ℕ) → ((j : ℕ) → (j ≡ p → ⊥) → f′ j ≡ f j) → (xs : List ℕ) → among p xs ≡ false → Alike f f′ xs
 alike-off f f′ p k [] h = tt

@@ -5,6 +5,8 @@ use mathlib.Core.Path.{_≡_}
 use Prim.Native.Nat.{ℕ, _+_, _<_}
 use lib.Dec.{eqb}
 use Rattle.std.specs.Of.Vec.{vec-len, vec-cap}
+use Rattle.std.specs.declared.option.Option.{Option}
+use Rattle.std.specs.declared.option.Option.the-variants.{Some, None}
 use Rattle.orders.specs.declared.terms.Terms.{Terms}
 use Rattle.book.specs.Lists.{without}
 use Rattle.chain_table.specs.Chains.{links-at, terms-at, next, prev, used-rows}
@@ -17,19 +19,22 @@ use Rattle.chain_table.specs.declared.table.ChainTable.{ChainTable}
 abbrev pub path-of : ChainTable → List ℕ
 path-of t = used-rows (t .chain) (t .count)
 
--- the first of the rows whose terms have the number, or 256
-abbrev pub first-with : ℕ → (ℕ → Terms) → List ℕ → ℕ
-first-with n c [] = 256
-first-with n c (x ∷ xs) = cond (eqb (c x .number) n) x (first-with n c xs)
+-- the number in a row
+abbrev pub number-in : ChainTable → ℕ → ℕ
+number-in t i = terms-at (t .chain) i .number
 
--- the row in use that holds the number, or 256
-abbrev pub row-holding : ℕ → ChainTable → ℕ
-row-holding n t = first-with n (terms-at (t .chain)) (path-of t)
+-- the first of the rows whose terms have the number
+abbrev pub first-with : ℕ → (ℕ → Terms) → List ℕ → Option ℕ
+first-with n c [] = None
+first-with n c (x ∷ xs) = cond (eqb (c x .number) n) (Some x) (first-with n c xs)
 
 -- the row in use that holds the number
+abbrev pub row-holding : ℕ → ChainTable → Option ℕ
+row-holding n t = first-with n (terms-at (t .chain)) (path-of t)
+
+-- that row is `at`
 pub record Holds (t : ChainTable) (number at : ℕ) : Type 0 where
-  pub found : at ≡ row-holding number t
-  pub used : at ≡ 256 → ⊥
+  pub is : Some at ≡ row-holding number t
 
 -- a row or the end
 abbrev pub Spot : Chain → ℕ → Type 0

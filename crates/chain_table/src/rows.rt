@@ -10,7 +10,7 @@ ghost use Rattle.orders.specs.Told.{terms-of};
 ghost use Rattle.book.specs.Calls.{Counted, Read-at, Told-capacity, Appended, Taken-out, Lowered};
 ghost use Rattle.book.specs.Lists.{held};
 ghost use Rattle.chain_table.specs.Rows.{rows-of};
-ghost use Rattle.chain_table.specs.Steps.{path-of, row-holding, Holds, Freed, Came-last, Left};
+ghost use Rattle.chain_table.specs.Steps.{path-of, number-in, row-holding, Holds, Freed, Came-last, Left};
 use crate::chain::Chain;
 use crate::chain::END;
 use crate::chain::Links;
@@ -52,25 +52,25 @@ impl ChainTable {
         at
     }
 
-    // The row of a number, or the end where it is not held.
-    fn row_of(&self, number: u32) -> usize
+    // The row of a number, if it is held.
+    fn row_of(&self, number: u32) -> Option<usize>
         ensures { λ r. ⌜ r ≡ row-holding number (now (self .entry)) ⌝ }
     {
         let mut at = self.chain.ends.after;
         for _step in 0..self.count {
             let row = self.chain.rows[at];
             if row.order.terms().number == number {
-                return at;
+                return Some(at);
             }
             at = row.links.after;
         }
-        END
+        None
     }
 
     fn holds(&self, number: u32) -> bool
         ensures { λ r. ⌜ r ≡ held number (rows-of (now (self .entry))) ⌝ }
     {
-        self.row_of(number) != END
+        self.row_of(number).is_some()
     }
 
     // Adds a free row where there is none; until it is used it holds `order`.
@@ -100,9 +100,9 @@ impl ChainTable {
     }
 
     // Joins the neighbours of a row in use, and adds the row to the free ones.
-    fn release(&mut self, at: usize, number: u32)
-        requires { ⌜ Holds (now self) number at ⌝ }
-        ensures { λ _. ⌜ Left (now (self .entry)) (now (self .exit)) number ⌝ }
+    fn release(&mut self, at: usize)
+        requires { ⌜ Holds (now self) (number-in (now self) at) at ⌝ }
+        ensures { λ _. ⌜ Left (now (self .entry)) (now (self .exit)) (number-in (now (self .entry)) at) ⌝ }
     {
         let Links { before, after } = self.chain.neighbours(at);
         self.chain.join(before, after);
@@ -157,12 +157,11 @@ impl ChainTable {
     pub(crate) fn remove(&mut self, number: u32) -> Option<Order>
         ensures { λ r. ⌜ Taken-out (now (self .entry) .capacity) (rows-of (now (self .entry))) number r (now (self .exit) .capacity) (rows-of (now (self .exit))) ⌝ }
     {
-        let at = self.row_of(number);
-        if at == END {
+        let Some(at) = self.row_of(number) else {
             return None;
-        }
+        };
         let order = self.chain.rows[at].order;
-        self.release(at, number);
+        self.release(at);
         Some(order)
     }
 
@@ -170,10 +169,9 @@ impl ChainTable {
     pub(crate) fn reduce(&mut self, number: u32, quantity: u32) -> bool
         ensures { λ r. ⌜ Lowered (now (self .entry) .capacity) (rows-of (now (self .entry))) number quantity r (now (self .exit) .capacity) (rows-of (now (self .exit))) ⌝ }
     {
-        let at = self.row_of(number);
-        if at == END {
+        let Some(at) = self.row_of(number) else {
             return false;
-        }
+        };
         match self.chain.rows[at].order.lowered(quantity) {
             Some(order) => {
                 self.chain.refill(at, order);

@@ -17,16 +17,17 @@ pub struct ChainTable {
     // the first free row, if any row is free
     pub(crate) free: usize,
     pub(crate) capacity: usize,
-    // all memory is reserved
+    // there is memory for all rows, at most 256
     ghost most: { capacity ≤ 256 },
     ghost within: { vec-len (chain .rows) ≤ capacity },
     ghost reserved: { capacity ≤ vec-cap (chain .rows) },
     ghost counted: { count ≤ vec-len (chain .rows) },
-    // each row in use leads to its neighbours, and they lead back
+    // each row in use leads to its neighbours, and they lead back to it
     ghost linked: { linked-both-ways chain (used-rows chain count) ≡ true },
     // no row is used twice, free twice, or both
     ghost once: { no-row-twice (used-rows chain count ++ free-rows chain free count) ≡ true },
     // each is a row, and they are as many as there are: none is lost
     ghost present: { all-below (vec-len (chain .rows)) (used-rows chain count ++ free-rows chain free count) ≡ true },
+    // numbers differ
     ghost apart: { distinct (rows-told chain count) ≡ true },
 }

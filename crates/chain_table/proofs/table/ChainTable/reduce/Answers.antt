@@ -13,23 +13,23 @@ use Rattle.chain_table.proofs.Writes.{row-told}
 use Rattle.chain_table.proofs.table.ChainTable.reduce.Needs as need
 use Rattle.chain_table.proofs.table.ChainTable.reduce.Needs.{After-index, After-refill}
 
-pub returns-then-at-eq-END : need.returns-then-at-eq-END
-returns-then-at-eq-END c =
+pub returns-in-rest : need.returns-in-rest
+returns-in-rest c =
     let t = c .args .self .now in
-    let none = none-at t (c .args .number) (c .row-of-at .result) (c .row-of-at .ensures) (c .if-at-eq-END .taken) in
+    let none = none-at t (c .args .number) (c .in-rest .ensures tt) in
     record { value = rw none; after = rw none; kept = table-kept t }
 
 pub index-requires : need.index-requires
 index-requires c κs =
-    let h : Holds (c .args .self .now) (c .args .number) (c .row-of-at .result) = record { found = c .row-of-at .ensures; used = c .if-at-eq-END .left } in
+    let h : Holds (c .args .self .now) (c .args .number) (c .in-Some .at) = record { is = c .in-Some .ensures tt } in
     used-made h
 
 -- the row of the number, and the terms that were read there
-at-row : (c : After-index) → Holds (c .args .self .now) (c .args .number) (c .row-of-at .result)
-at-row c = record { found = c .row-of-at .ensures; used = c .if-at-eq-END .left }
+at-row : (c : After-index) → Holds (c .args .self .now) (c .args .number) (c .in-Some .at)
+at-row c = record { is = c .in-Some .ensures tt }
 
-read : (c : After-index) → told-by (c .index .result .now) ≡ terms-at (c .args .self .now .chain) (c .row-of-at .result)
-read c = row-told (c .args .self .now .chain) (c .row-of-at .result) (c .index .result .now) (used-made (at-row c)) (c .index .ensures)
+read : (c : After-index) → told-by (c .index .result .now) ≡ terms-at (c .args .self .now .chain) (c .in-Some .at)
+read c = row-told (c .args .self .now .chain) (c .in-Some .at) (c .index .result .now) (used-made (at-row c)) (c .index .ensures)
 
 finds : (c : After-index) → found (c .args .number) (rows-of (c .args .self .now)) ≡ Some (told-by (c .index .result .now))
 finds c = seen-at (at-row c) .finds ∙ ap Some (sym (read c))
@@ -42,17 +42,17 @@ written : (c : After-refill) →
 written c =
     let t = c .args .self .now in
     let i = need.at·ghost-self c .After-index in
-    let new : terms-of (c .in-Some .order) ≡ with-quantity (terms-at (t .chain) (c .row-of-at .result)) (c .args .quantity) = given _ _ _ (c .in-Some .ensures tt) .1 ∙ ap (λ x. with-quantity x (c .args .quantity)) (read i) in
-    rewritten (at-row i) (subst (λ x. Refilled (t .chain) (c .refill .last .self) (c .row-of-at .result) x) new (c .refill .ensures))
+    let new : terms-of (c .in-Some-lowered .order) ≡ with-quantity (terms-at (t .chain) (c .in-Some .at)) (c .args .quantity) = given _ _ _ (c .in-Some-lowered .ensures tt) .1 ∙ ap (λ x. with-quantity x (c .args .quantity)) (read i) in
+    rewritten (at-row i) (subst (λ x. Refilled (t .chain) (c .refill .last .self) (c .in-Some .at) x) new (c .refill .ensures))
 
 pub ghost-self : need.ghost-self
 ghost-self c = closed (written c)
 
-pub returns-in-Some : need.returns-in-Some
-returns-in-Some c =
-    let some = finds (need.at·returns-in-Some c .After-index) in
-    let may = given _ _ _ (c .in-Some .ensures tt) .0 in
-    let w = written (need.at·returns-in-Some c .After-refill) in
+pub returns-in-Some-lowered : need.returns-in-Some-lowered
+returns-in-Some-lowered c =
+    let some = finds (need.at·returns-in-Some-lowered c .After-index) in
+    let may = given _ _ _ (c .in-Some-lowered .ensures tt) .0 in
+    let w = written (need.at·returns-in-Some-lowered c .After-refill) in
     record { value = rw (some, may); after = rw (some, may) (list-is w); kept = kept w (c .args .self .now .capacity) refl }
 
 pub returns-in-None : need.returns-in-None
