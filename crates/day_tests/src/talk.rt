@@ -38,7 +38,7 @@ fn talk_over<S: Store + Drop>(heap: Global, store: S, input: &[u8]) -> Result<St
 }
 
 // What the day program prints for an input, over either store.
-pub fn talk(heap: Global, input: &[u8]) -> Result<String, Fail> {
+pub(crate) fn talk(heap: Global, input: &[u8]) -> Result<String, Fail> {
     let output = talk_over(heap, RowTable::new(heap, 64)?, input)?;
     let other = talk_over(heap, ChainTable::new(heap, 64)?, input)?;
     check_eq(output.as_str(), other.as_str())?;

@@ -8,8 +8,8 @@ use std::test::*;
 use waiting_line::line::WaitingLine;
 
 // A sequence of numbers that looks random.
-fn next(seed: u32) -> u32 {
-    seed.wrapping_mul(1_103_515_245).wrapping_add(12_345)
+fn next(state: u32) -> u32 {
+    state.wrapping_mul(1_103_515_245).wrapping_add(12_345)
 }
 
 fn check_put(
@@ -31,11 +31,11 @@ fn check_line(heap: Global, slots: &mut [u32]) -> Result<(), Fail> {
     let mut line = WaitingLine::new(slots);
     let mut queue = VecDeque::new(heap);
     check_eq(line.capacity(), capacity)?;
-    let mut seed = 7;
+    let mut state = 7;
     for record in 0..2_000 {
-        seed = next(seed);
+        state = next(state);
         // for 500 records the line fills, for 500 it empties, and so on
-        if (seed >> 16) % 4 > (record / 500) % 2 * 2 {
+        if (state >> 16) % 4 > (record / 500) % 2 * 2 {
             check_put(&mut line, &mut queue, record)?;
         } else {
             check_eq(line.take(), queue.pop_front())?;

@@ -39,9 +39,9 @@ fn append<A: Store, B: Store>(
 }
 
 // For 400 calls most append, for 400 most take out, and so on.
-fn same_answers<A: Store, B: Store>(a: &mut A, b: &mut B, seed: u32) -> Result<(), Fail> {
+fn same_answers<A: Store, B: Store>(a: &mut A, b: &mut B, start: u32) -> Result<(), Fail> {
     let numbers = a.capacity() as u32 * 3 / 2 + 2;
-    let mut random = Random::new(seed);
+    let mut random = Random::new(start);
     for call in 0..2_400 {
         let filling = (call / 400) % 2 == 0;
         let number = random.up_to(numbers);

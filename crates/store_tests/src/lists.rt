@@ -7,17 +7,17 @@ use orders::terms::TermsPartialEq;
 use std::test::*;
 
 #[derive(Drop)]
-pub struct Random {
+pub(crate) struct Random {
     state: u32,
 }
 
 impl Random {
-    pub fn new(seed: u32) -> Random {
-        Random { state: seed }
+    pub(crate) fn new(start: u32) -> Random {
+        Random { state: start }
     }
 
     // A number below `limit`, or 0.
-    pub fn below(&mut self, limit: u32) -> u32 {
+    pub(crate) fn below(&mut self, limit: u32) -> u32 {
         self.state = self.state
             .wrapping_mul(1_664_525)
             .wrapping_add(1_013_904_223);
@@ -25,12 +25,12 @@ impl Random {
     }
 
     // A number from 1 to `limit`.
-    pub fn up_to(&mut self, limit: u32) -> u32 {
+    pub(crate) fn up_to(&mut self, limit: u32) -> u32 {
         self.below(limit).saturating_add(1)
     }
 }
 
-pub fn told(order: Option<Order>) -> Option<Terms> {
+pub(crate) fn told(order: Option<Order>) -> Option<Terms> {
     match order {
         Some(order) => Some(order.terms()),
         None => None,
@@ -38,7 +38,7 @@ pub fn told(order: Option<Order>) -> Option<Terms> {
 }
 
 // Both books hold the same orders in the same sequence.
-pub fn check_same<A: Book, B: Book>(a: &A, b: &B) -> Result<(), Fail> {
+pub(crate) fn check_same<A: Book, B: Book>(a: &A, b: &B) -> Result<(), Fail> {
     check_eq(a.count(), b.count())?;
     for place in 0..257 {
         check_eq(told(a.order_at(place)), told(b.order_at(place)))?;
