@@ -1,2 +1,2 @@
 mod Checking
-mod Stepping
+pub mod Stepping

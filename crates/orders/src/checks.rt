@@ -28,7 +28,8 @@ impl Settings {
         is_quantity(quantity) && quantity % u32::from(self.lot) == 0
     }
 
-    fn is_on_tick(self, price: u32) -> bool
+    // Is this a price, and a multiple of the tick?
+    pub fn is_on_tick(self, price: u32) -> bool
         ensures { λ r. ⌜ r ≡ on-tick (grid-of self) price ⌝ }
     {
         is_price(price) && price % self.tick() == 0

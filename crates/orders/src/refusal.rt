@@ -18,6 +18,10 @@ pub enum Refusal {
     BookFull,
     LockedStockFull,
     RequestListFull,
+    // the prices of a matching quote: out of range, off the tick, or the bid not below the ask
+    QuotePrices,
+    // the volumes of a matching quote: too large or off the lot
+    QuoteVolumes,
     // a day line that does not belong to the phase
     WrongPhase,
     // the lot or the tick class is out of range
@@ -43,6 +47,8 @@ impl Refusal {
             Refusal::BookFull => 8,
             Refusal::LockedStockFull => 9,
             Refusal::RequestListFull => 10,
+            Refusal::QuotePrices => 11,
+            Refusal::QuoteVolumes => 12,
             Refusal::WrongPhase => 13,
             Refusal::Settings => 14,
             Refusal::Capacity => 15,
