@@ -1,8 +1,8 @@
 -- The orders of a book after the stops are as many, and their volume fits.
 use mathlib.Core.Bool.{Bool, true, false, cond, not}
-use mathlib.Core.List.{List, [], _∷_, _++_, map}
-use mathlib.Core.Path.{_≡_, refl, sym, _∙_}
-use Prim.Native.Nat.{ℕ, _+_, _≤_}
+use mathlib.Core.List.{List}
+use mathlib.Core.Path.{_≡_, refl, _∙_}
+use Prim.Native.Nat.{ℕ, _≤_}
 use native.Mathlib.Omega.{arith}
 use lib.ListN.{length}
 use Rattle.std.proofs.shelf.Elements.{all-weaker, all-append, all-kept-by, all-map}
@@ -10,7 +10,7 @@ use Rattle.std.proofs.shelf.Filters.{length-kept-by-both}
 use Rattle.std.proofs.shelf.Lists.{length-append, length-map}
 use Rattle.std.proofs.shelf.Sums.{sumBy-le, length-kept-by}
 use Rattle.std.proofs.shelf.Ways.{tells}
-use Rattle.std.specs.shelf.Lists.{All, kept-by, sumBy}
+use Rattle.std.specs.shelf.Lists.{kept-by, sumBy}
 use Rattle.orders.specs.Ranges.{in-range}
 use Rattle.orders.specs.declared.terms.Side.{Side}
 use Rattle.orders.specs.declared.terms.Terms.{Terms}

@@ -1,16 +1,16 @@
 -- The law of the price.
 use mathlib.Core.Bool.{Bool, true, false, cond, _&&_}
 use mathlib.Core.List.{List, [], _∷_}
-use mathlib.Core.Logic.{_⊎_, inl, inr, ⊎-elim}
+use mathlib.Core.Logic.{_⊎_, ⊎-elim}
 use mathlib.Core.Path.{_≡_, refl, ap, sym, subst, _∙_}
-use Prim.Native.Nat.{ℕ, zero, suc, _+_, _-_, _*_, _/_, _≤_, _<_, min, max}
+use Prim.Native.Nat.{ℕ, zero, suc, _+_, _-_, _/_, _≤_, _<_, min}
 use native.Mathlib.Nat.{div-mul-le-self}
 use native.Mathlib.Omega.{arith}
 use lib.Dec.{leb, eqb}
 use lib.IntN.{ℤ, pos, _-ℤ_}
 use Rattle.std.proofs.shelf.Elements.{all-weaker}
 use Rattle.std.proofs.shelf.Tests.{leb-true, le-leb, eqb-true, eqb-false, eq-eqb, ne-eqb, and-parts, and-from, cases-bool, cases-eq}
-use Rattle.std.specs.shelf.Lists.{All, joined, sumBy}
+use Rattle.std.specs.shelf.Lists.{All, sumBy}
 use Rattle.orders.specs.declared.terms.Kind.{Kind}
 use Rattle.orders.specs.declared.terms.Kind.the-variants.{Market, Limit, StopMarket, StopLimit}
 use Rattle.orders.specs.declared.terms.Side.{Side}
@@ -18,10 +18,10 @@ use Rattle.orders.specs.declared.terms.Side.the-variants.{Buy, Sell}
 use Rattle.orders.specs.declared.terms.Terms.{Terms}
 use Rattle.pricing.proofs.Filters.{all-every, all-joined, joined-all, sum-le, seek}
 use Rattle.pricing.proofs.Running.{Leads, leads, low-all, high-all, low-shares, high-shares, low-high, none-is, rule-is}
-use Rattle.pricing.specs.Answers.{surplus-at, priced-at, auction-of}
-use Rattle.pricing.specs.Depth.{limit-takes, kind-takes, open-at, depth-at, demand-at, supply-at, shares-at, from-bid-to-ask, level-of, levels-of}
-use Rattle.pricing.specs.Law.{Between, Some-trades, None-more, Fair-price, Fair}
-use Rattle.pricing.specs.Price.{midpoint, none-trades, price-of}
+use Rattle.pricing.specs.Answers.{priced-at, auction-of}
+use Rattle.pricing.specs.Depth.{limit-takes, kind-takes, open-at, demand-at, supply-at, shares-at, from-bid-to-ask, level-of, limit-levels, levels-of}
+use Rattle.pricing.specs.Law.{Between, Fair}
+use Rattle.pricing.specs.Price.{midpoint, price-of}
 use Rattle.pricing.specs.Steps.{best-of, chosen-price}
 use Rattle.pricing.specs.declared.best.Best.{Best}
 use Rattle.pricing.specs.declared.quote.Quote.{Quote}
@@ -107,7 +107,7 @@ module _ (q : Quote) (ts : List Terms) where
   best = best-of q ts
 
   best-leads : Leads (demand-at q ts) (supply-at q ts) (levels-of q ts) best
-  best-leads = leads (demand-at q ts) (supply-at q ts) (q .bid) (q .ask ∷ joined (λ t. level-of q (t .kind)) ts)
+  best-leads = leads (demand-at q ts) (supply-at q ts) (q .bid) (q .ask ∷ limit-levels q ts)
 
   level-between : (k : Kind) → All (Between q) (level-of q k)
   level-between Market = tt
@@ -156,7 +156,7 @@ module _ (q : Quote) (ts : List Terms) where
       let enough = between-trades (best .shares) (best .lowest) (chosen-price tick best) (best .highest) (c .0) (c .1) (l .0) (g .1) (omega (arith, low)) (omega (arith, high)) in
       let some : 1 ≤ best .shares = ⊎-elim (λ z. absurd (eqb-false (best .shares) 0 e z)) (λ z. omega arith) (cases-eq (best .shares) 0) in
       let inside : Between q (chosen-price tick best) = (omega (arith, c .0, l .0), omega (arith, c .1, g .1)) in
-      (record { trades = (chosen-price tick best, inside, omega (arith, enough)); between = inside; told = refl; most = λ x w. omega (arith, at-most x w, enough) }, refl)
+      record { trades = (chosen-price tick best, inside, omega (arith, enough)); between = inside; most = λ x w. omega (arith, at-most x w, enough); shares = refl; surplus = refl }
 
   pub fair : (tick n : ℕ) → q .bid < q .ask → Fair q ts (auction-of tick q ts n)
   fair tick n h = subst (Fair q ts) (sym (auction-is tick n)) (fair-by tick n h (eqb (best .shares) 0) refl)
@@ -179,3 +179,7 @@ module _ (q : Quote) (ts : List Terms) (tick n : ℕ) (b : Best) (is : b ≡ bes
 
   pub fair-answer : {r : TrialPrice} → q .bid < q .ask → r ≡ auction-of tick q ts n → Fair q ts r
   fair-answer h e = subst (Fair q ts) (sym e) (fair q ts tick n h)
+
+-- an answer on equal orders with an equal count of stops
+pub told-after : (tick : ℕ) (q : Quote) (ts us : List Terms) (n m : ℕ) {r : TrialPrice} → ts ≡ us → n ≡ m → r ≡ auction-of tick q ts n → r ≡ auction-of tick q us m
+told-after tick q ts us n m e k h = h ∙ ap (λ l. auction-of tick q l n) e ∙ ap (auction-of tick q us) k

@@ -1,7 +1,7 @@
--- The loop that parts the orders of a book.
+-- The orders of a book, parted in a loop, and put together again.
 use mathlib.Core.Bool.{not}
 use mathlib.Core.List.{List, [], _∷_, _++_, map}
-use mathlib.Core.Path.{_≡_, refl, ap, _∙_}
+use mathlib.Core.Path.{_≡_, refl, sym, ap, _∙_}
 use Prim.Native.Nat.{ℕ, _+_, _≤_}
 use native.Mathlib.Omega.{arith}
 use lib.ListN.{length, drop}
@@ -11,10 +11,12 @@ use Rattle.std.specs.shelf.Lists.{kept-by}
 use Rattle.orders.specs.declared.terms.Terms.{Terms}
 use Rattle.book.proofs.Reading.{Stands}
 use Rattle.book.specs.Lists.{Sound}
+use Rattle.pricing.proofs.Bounding.{triggered-length, after-bounded}
 use Rattle.pricing.proofs.Walking.{listed-more, listed-all}
-use Rattle.pricing.specs.Steps.{listed, Added, Parts}
+use Rattle.pricing.specs.Steps.{listed, Added, Parts, Ready}
 use Rattle.pricing.specs.Stops.{triggered-by, made-ready, staying-orders, triggered-orders}
 use Rattle.pricing.specs.declared.gather.Parted.{Parted}
+use Rattle.pricing.specs.declared.listing.Listing.{Listing}
 use Rattle.pricing.specs.declared.quote.Quote.{Quote}
 
 -- the first i orders are parted
@@ -46,4 +48,13 @@ parting-all {q} {ts} {i} {p} h end s =
       triggered = listed-all (triggered-orders q) ts i (listed (p .triggered)) (triggered-orders q ts) refl end (h .triggered);
       len = omega (arith, h .len, h .within);
       sound = s;
+    }
+
+-- what stays, and behind it what is triggered, is the list after the stops
+pub ready-from : {q : Quote} {ts : List Terms} (p : Parted) (l : Listing) (more : List Terms) → Parts q ts p → more ≡ listed (p .triggered) → length more ≡ p .triggered .count → listed l ≡ listed (p .staying) ++ more → Ready q ts (record { ready = l; stops = p .triggered .count })
+ready-from {q} {ts} p l more h e n k =
+    record {
+      value = k ∙ ap (λ x. x ++ more) (h .staying) ∙ ap (λ x. staying-orders q ts ++ x) (e ∙ h .triggered);
+      stops = sym n ∙ ap length (e ∙ h .triggered) ∙ triggered-length q ts;
+      bounded = after-bounded q ts (h .sound);
     }

@@ -9,10 +9,10 @@ use lib.Dec.{leb, ltb, eqb}
 use lib.ListN.{length}
 use Rattle.std.proofs.shelf.Elements.{all-weaker, all-push, kept-by-append, kept-by-passes, all-kept-by}
 use Rattle.std.proofs.shelf.Lists.{append-nil, append-assoc, length-push}
-use Rattle.std.proofs.shelf.Tests.{ltb-true, ltb-false, leb-true, le-leb, eqb-true, eqb-false, eq-eqb, ne-eqb, and-parts, and-from, and-left, and-right, cases-bool}
+use Rattle.std.proofs.shelf.Tests.{ltb-true, ltb-false, leb-true, le-leb, eqb-true, eq-eqb, ne-eqb, and-parts, and-from, and-left, and-right, cases-bool}
 use Rattle.std.specs.shelf.Lists.{All, kept-by, folded}
 use Rattle.pricing.proofs.Filters.{kept-none, kept-same, kept-twice, all-both, all-of-all, all-all-of, all-of-push, and-true, lowest-push, highest-push, lowest-all, highest-all, lowest-le-highest}
-use Rattle.pricing.specs.Price.{all-of, with-most, with-least, lowest-of, highest-of, price-among, midpoint}
+use Rattle.pricing.specs.Price.{all-of, with-most, with-least, lowest-of, highest-of, price-among}
 use Rattle.pricing.specs.Steps.{lone-best, tied-best, better-of, chosen-price}
 use Rattle.pricing.specs.declared.best.Best.{Best}
 

@@ -1,6 +1,6 @@
 -- The stops, triggered twice, are as triggered once.
-use mathlib.Core.Bool.{true, false, not}
-use mathlib.Core.List.{List, [], _∷_, _++_, map}
+use mathlib.Core.Bool.{false, not}
+use mathlib.Core.List.{List, _++_, map}
 use mathlib.Core.Path.{_≡_, refl, ap, _∙_}
 use Rattle.std.proofs.shelf.Elements.{all-weaker, all-append, all-map, kept-by-passes}
 use Rattle.std.proofs.shelf.Lists.{append-nil}

@@ -63,5 +63,9 @@ level-of q (Limit l) = cond (from-bid-to-ask q l) (l ∷ []) []
 level-of q (StopMarket s) = []
 level-of q (StopLimit l s) = []
 
+abbrev pub limit-levels : Quote → List Terms → List ℕ
+limit-levels q ts = joined (λ t. level-of q (t .kind)) ts
+
+-- the levels: the bid, the ask and the limits between
 abbrev pub levels-of : Quote → List Terms → List ℕ
-levels-of q ts = q .bid ∷ q .ask ∷ joined (λ t. level-of q (t .kind)) ts
+levels-of q ts = q .bid ∷ q .ask ∷ limit-levels q ts

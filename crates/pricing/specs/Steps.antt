@@ -1,5 +1,5 @@
 -- What the steps of the code compute: lists in arrays, and the best of the levels so far.
-use mathlib.Core.Bool.{Bool, cond, _&&_}
+use mathlib.Core.Bool.{cond, _&&_}
 use mathlib.Core.List.{List, [], _∷_, _++_}
 use mathlib.Core.Path.{_≡_}
 use Prim.Native.Nat.{ℕ, _+_, _-_, _≤_, min, max}
@@ -8,7 +8,7 @@ use lib.ListN.{length, take}
 use Rattle.std.specs.shelf.Lists.{All, folded}
 use Rattle.orders.specs.declared.terms.Terms.{Terms}
 use Rattle.book.specs.Lists.{Sound}
-use Rattle.pricing.specs.Depth.{demand-at, supply-at, levels-of}
+use Rattle.pricing.specs.Depth.{demand-at, supply-at, limit-levels}
 use Rattle.pricing.specs.Price.{midpoint}
 use Rattle.pricing.specs.Stops.{staying-orders, triggered-orders, after-stops, stop-count}
 use Rattle.pricing.specs.declared.best.Best.{Best}
@@ -69,12 +69,8 @@ abbrev pub best-with : Quote → List Terms → Best → List ℕ → Best
 best-with q ts b ps = folded (λ a p. better-of a (best-at q ts p)) b ps
 
 -- the best of all levels
-abbrev pub best-over : Quote → List Terms → List ℕ → Best
-best-over q ts [] = lone-best 0 0 0
-best-over q ts (p ∷ ps) = best-with q ts (best-at q ts p) ps
-
 abbrev pub best-of : Quote → List Terms → Best
-best-of q ts = best-over q ts (levels-of q ts)
+best-of q ts = best-with q ts (best-at q ts (q .bid)) (q .ask ∷ limit-levels q ts)
 
 -- the price that a best gives
 abbrev pub chosen-price : ℕ → Best → ℕ

@@ -102,6 +102,7 @@ impl Quote {
 }
 
 impl MatchingQuote {
+    // A price as the best of its own.
     fn best_at(self, orders: &[Terms], price: u32) -> Best
         requires { ⌜ Bounded (now orders) ⌝ }
         ensures { λ r. ⌜ r ≡ best-at (self .quote) (now (orders .entry)) price ⌝ }

@@ -10,6 +10,7 @@ use orders::terms::Side;
 use orders::terms::SidePartialEq;
 use orders::terms::Terms;
 
+// Does a limit of this side take the price?
 fn limit_takes(side: Side, limit: u32, price: u32) -> bool
     ensures { λ r. ⌜ r ≡ limit-takes side limit price ⌝ }
 {
@@ -19,6 +20,7 @@ fn limit_takes(side: Side, limit: u32, price: u32) -> bool
     }
 }
 
+// Does an order of this side and kind trade at the price?
 fn kind_takes(side: Side, kind: Kind, price: u32) -> bool
     ensures { λ r. ⌜ r ≡ kind-takes side kind price ⌝ }
 {

@@ -60,7 +60,7 @@ impl Listing {
 }
 
 // Orders that stay in their places, and stops that a quote triggers, made ready.
-#[derive(Clone, Copy)]
+#[derive(Drop)]
 struct Parted {
     staying: Listing,
     triggered: Listing,
@@ -97,7 +97,7 @@ fn part<B: Book>(book: &B, quote: Quote) -> Parted
 }
 
 // The orders of a book after the stops, and how many stops were triggered.
-#[derive(Clone, Copy)]
+#[derive(Drop)]
 pub(crate) struct Gathered {
     pub(crate) ready: Listing,
     pub(crate) stops: usize,

@@ -4,7 +4,7 @@ use orders::capacity::MOST;
 use orders::terms::Terms;
 
 // The first `count` of the orders are listed.
-#[derive(Clone, Copy)]
+#[derive(Drop)]
 pub(crate) struct Listing {
     pub(crate) orders: [Terms; MOST],
     pub(crate) count: usize,

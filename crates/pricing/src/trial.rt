@@ -17,7 +17,7 @@ use orders::terms::Side;
 use orders::terms::Terms;
 
 // A price with its shares and its surplus, which is demand less supply, or no price; and how many stops were triggered.
-#[derive(Clone, Copy)]
+#[derive(Clone, Copy, PartialEq, Eq, Debug)]
 pub enum TrialPrice {
     Priced {
         price: u32,

@@ -1,10 +1,9 @@
-use mathlib.Core.Path.{subst, ap}
+use mathlib.Core.Path.{subst}
 use native.Mathlib.Omega.{arith}
 use Rattle.orders.specs.Told.{terms-of}
 use Rattle.book.proofs.Reading.{Stands, stands, past}
 use Rattle.pricing.proofs.Parting.{parting-more, parting-all}
 use Rattle.pricing.specs.Steps.{Added}
-use Rattle.pricing.specs.Stops.{staying-orders, triggered-orders}
 use Rattle.pricing.proofs.gather.part.Given as given
 use Rattle.pricing.proofs.gather.part.Needs as need
 use Rattle.pricing.proofs.gather.part.Needs.{In-Some}

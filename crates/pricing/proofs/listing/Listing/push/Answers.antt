@@ -1,6 +1,5 @@
 use mathlib.Core.Path.{refl}
 use Prim.Native.Nat.{_<_}
-use native.Mathlib.Omega.{arith}
 use borrow.Author.Needs.{needs}
 use lib.ListN.{length}
 use Rattle.std.proofs.shelf.Lists.{take-more-set}
