@@ -21,7 +21,7 @@ use Rattle.orders.specs.Answers.{answered, left}
 use Rattle.book.specs.Calls.{append-fault}
 use Rattle.book.specs.Lists.{found, without, held, distinct, Sound}
 use Rattle.instructions.specs.Conservation.{Conserved, about}
-use Rattle.instructions.specs.Effects.{fault, effect, changed, carried-answer, carried-book, open-at, open-in}
+use Rattle.instructions.specs.Effects.{fault, effect, changed, carried-answer, carried-book, open-of, open-in}
 use Rattle.instructions.specs.declared.effect.Effect.{Effect}
 
 no-other : (o : Option Terms) → open-in (orOther o None) ≡ open-in o
@@ -33,10 +33,10 @@ not-held room t ts f =
     ⊎-elim (λ h. let k = rw h at f in let z : _≡_ {A = ℕ} 0 1 = cc in absurd (omega arith)) (λ h. h) (cases-bool (held (t .number) ts))
 
 -- an order put at the end of a list that does not hold its number
-pushed-here : (t : Terms) (ts : List Terms) → found (t .number) ts ≡ None → open-at (t .number) (ts ++ t ∷ []) ≡ t .quantity
+pushed-here : (t : Terms) (ts : List Terms) → found (t .number) ts ≡ None → open-of (t .number) (ts ++ t ∷ []) ≡ t .quantity
 pushed-here t ts f = ap open-in (found-push (t .number) ts t) ∙ rw (f, eq-eqb (t .number) (t .number) refl)
 
-pushed-elsewhere : (n : ℕ) (t : Terms) (ts : List Terms) → (n ≡ t .number → ⊥) → open-at n (ts ++ t ∷ []) ≡ open-at n ts
+pushed-elsewhere : (n : ℕ) (t : Terms) (ts : List Terms) → (n ≡ t .number → ⊥) → open-of n (ts ++ t ∷ []) ≡ open-of n ts
 pushed-elsewhere n t ts h =
     let other : eqb (t .number) n ≡ false = ne-eqb _ _ (λ e. h (sym e)) in
     ap open-in (found-push n ts t) ∙ rw other (no-other (found n ts))

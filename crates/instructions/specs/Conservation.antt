@@ -8,7 +8,7 @@ use Rattle.orders.specs.declared.instruction.Instruction.{Instruction}
 use Rattle.orders.specs.declared.instruction.Instruction.the-variants.{Enter, Change, Delete}
 use Rattle.orders.specs.declared.refusal.Refusal.{Refusal}
 use Rattle.orders.specs.declared.terms.Terms.{Terms}
-use Rattle.instructions.specs.Effects.{open-at}
+use Rattle.instructions.specs.Effects.{open-of}
 use Rattle.instructions.specs.declared.effect.Effect.{Effect}
 
 -- the order number that an instruction is about
@@ -28,5 +28,5 @@ taken-off-by (Err r) = 0
 
 -- of the number n, open before and added are open after and taken off; of any other number nothing changes
 pub record Conserved (n : ℕ) (answer : Result Effect Refusal) (before after : List Terms) : Type 0 where
-  pub here : open-at n before + added-by answer ≡ open-at n after + taken-off-by answer
-  pub elsewhere : (m : ℕ) → (m ≡ n → ⊥) → open-at m after ≡ open-at m before
+  pub here : open-of n before + added-by answer ≡ open-of n after + taken-off-by answer
+  pub elsewhere : (m : ℕ) → (m ≡ n → ⊥) → open-of m after ≡ open-of m before

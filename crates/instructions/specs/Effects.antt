@@ -22,8 +22,8 @@ open-in None = 0
 open-in (Some t) = t .quantity
 
 -- the open quantity of a number, 0 where it is not held
-abbrev pub open-at : ℕ → List Terms → ℕ
-open-at n ts = open-in (found n ts)
+abbrev pub open-of : ℕ → List Terms → ℕ
+open-of n ts = open-in (found n ts)
 
 -- why a participant may not touch the order that was found: there is none, or it is another's
 abbrev pub owner-fault : ℕ → Option Terms → Option Refusal
@@ -44,8 +44,8 @@ fault room (Delete n p) ts = owner-fault p (found n ts)
 -- the shares that it adds and takes off: a change adds the rise or takes off the fall
 abbrev pub effect : Instruction Terms → List Terms → Effect
 effect (Enter t) ts = record { added = t .quantity; «taken_off» = 0 }
-effect (Change t) ts = record { added = t .quantity - open-at (t .number) ts; «taken_off» = open-at (t .number) ts - t .quantity }
-effect (Delete n p) ts = record { added = 0; «taken_off» = open-at n ts }
+effect (Change t) ts = record { added = t .quantity - open-of (t .number) ts; «taken_off» = open-of (t .number) ts - t .quantity }
+effect (Delete n p) ts = record { added = 0; «taken_off» = open-of n ts }
 
 -- the book that it makes: what is entered or changed stands last
 abbrev pub changed : Instruction Terms → List Terms → List Terms
