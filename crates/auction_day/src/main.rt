@@ -1,4 +1,6 @@
 // Reads the lines of a day from standard input, and prints the answer to each at once.
+#![tactic(auto)]
+
 use book::Store;
 use chain_table::table::ChainTable;
 use day::day::Day;

@@ -1,4 +1,5 @@
 // Whole days with freezes, auctions and held instructions: worked examples, and random days beside a reckoning written apart.
+#![tactic(auto)]
 
 #[cfg(test)]
 mod calls;

@@ -1,4 +1,6 @@
 // A readable book and a store, each told by the list of its orders, earliest first.
+#![tactic(auto)]
+
 ghost use Rattle.std.specs.Prelude.{ℕ, ◌≤◌, List, length};
 ghost use Rattle.orders.specs.Told.{terms_of};
 ghost use Rattle.orders.specs.declared.terms.Terms.{Terms};

@@ -40,14 +40,16 @@ pub record Holding (c : Chain) (count free capacity : ℕ) (ts : List Terms) : T
 -- the facts that the fields of a table state
 abbrev pub Fields : Chain → ℕ → ℕ → ℕ → Type 0
 Fields c count free capacity =
-    (capacity ≤ 256)
-    × ((vec_len c.rows ≤ capacity)
-    × ((capacity ≤ vec_capacity c.rows)
-    × ((count ≤ vec_len c.rows)
-    × ((linked_both_ways c (used_rows c count) ≡ true)
-    × ((no_row_twice (used_rows c count ++ free_rows c free count) ≡ true)
-    × ((all_below (vec_len c.rows) (used_rows c count ++ free_rows c free count) ≡ true)
-    × ((distinct (rows_told c count) ≡ true) × Unit {0})))))))
+    record {
+      most : capacity ≤ 256;
+      within : vec_len c.rows ≤ capacity;
+      reserved : capacity ≤ vec_capacity c.rows;
+      counted : count ≤ vec_len c.rows;
+      linked : linked_both_ways c (used_rows c count) ≡ true;
+      once : no_row_twice (used_rows c count ++ free_rows c free count) ≡ true;
+      present : all_below (vec_len c.rows) (used_rows c count ++ free_rows c free count) ≡ true;
+      apart : distinct (rows_told c count) ≡ true;
+    }
 
 pub opened : (t : ChainTable) → Intact t.chain t.count t.free t.capacity (path_of t) (free_rows t.chain t.free t.count) (rows_of t)
 opened t =
@@ -104,7 +106,7 @@ module _ {c : Chain} {count free capacity : ℕ} {ts : List Terms} (h : Holding 
       let once = ap no_row_twice all ∙ s.once in
       let present = ap (all_below (vec_len c.rows)) all ∙ to_below (vec_len c.rows) (h.used ++ h.spare) s.present in
       let apart = ap distinct list_is ∙ s.apart in
-      (s.most, (s.within, (s.reserved, (counted, (linked, (once, (present, (apart, tt))))))))
+      record { most = s.most; within = s.within; reserved = s.reserved; counted = counted; linked = linked; once = once; present = present; apart = apart }
 
   pub kept : (room : ℕ) → capacity ≡ room → Kept room capacity (rows_told c count)
   kept room e =

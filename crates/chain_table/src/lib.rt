@@ -1,4 +1,6 @@
 // A store whose rows are chained by index to both neighbours; no row moves, and freed rows are used again.
+#![tactic(auto)]
+
 pub mod calls;
 mod chain;
 mod links;

@@ -33,8 +33,8 @@ impl Chain {
 
     // Makes `b` follow `a`.
     pub(crate) fn join(&mut self, a: usize, b: usize)
-        requires spot { Spot self.old a }
-        requires spot_2 { Spot self.old b }
+        requires first { Spot self.old a }
+        requires second { Spot self.old b }
         ensures { Joined self.old self.new a b }
     {
         let before = self.neighbours(a).before;

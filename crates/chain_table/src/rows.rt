@@ -78,8 +78,8 @@ impl ChainTable {
 
     // Puts an order into the first free row, and that row at the end of the chain.
     fn use_free_row(&mut self, order: Order)
-        requires self_value { held (terms_of order).number (rows_of self.old) ≡ false }
-        requires count_in_bounds { self.old.count < vec_len self.old.chain.rows }
+        requires apart { held (terms_of order).number (rows_of self.old) ≡ false }
+        requires spare { self.old.count < vec_len self.old.chain.rows }
         ensures { CameLast self.old self.new (terms_of order) }
     {
         let at = self.free;

@@ -1,4 +1,6 @@
 // Reads the lines of a day: bytes into fields, fields into what a line says, and that by where in the day the line stands.
+#![tactic(auto)]
+
 mod cursor;
 pub mod fault;
 mod field;

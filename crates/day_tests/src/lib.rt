@@ -1,4 +1,5 @@
 // Tests of the day: text in, text out.
+#![tactic(auto)]
 
 #[cfg(test)]
 mod days;

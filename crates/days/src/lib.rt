@@ -1,4 +1,6 @@
 // Whole days over any store, and what holds of all of them.
+#![tactic(auto)]
+
 pub mod answer;
 pub mod call;
 mod counts;

@@ -1,6 +1,7 @@
 // Tests of the waiting line and of quote requests.
+#![tactic(auto)]
 
 #[cfg(test)]
 mod lines;
 #[cfg(test)]
-mod requests;
+mod request_lists;

@@ -1,7 +1,7 @@
 -- A ticket that passes its checks has terms that are in range.
-use Rattle.std.proofs.Common.{◌≡◌, ℕ, Bool, true, false, cond, ◌&&◌, Some, None, refl, arith}
+use Rattle.std.proofs.Common.{◌≡◌, ℕ, true, Some, arith}
 use Rattle.std.proofs.lemmas.Bool.Decides.{nat_tests}
-use Rattle.orders.specs.Checks.{identified, on_lot, on_tick, kind_named, terms_under}
+use Rattle.orders.specs.Checks.{identified, on_lot, kind_named, terms_under}
 use Rattle.orders.specs.Ticks.{Grid}
 use Rattle.orders.specs.Ranges.{in_range, has_prices}
 use Rattle.orders.specs.declared.terms.Kind.{Kind}

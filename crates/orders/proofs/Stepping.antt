@@ -1,5 +1,5 @@
 -- A tick is never 0.
-use Rattle.std.proofs.Common.{ℕ, zero, suc, ◌/◌, ◌%◌, ◌^◌, ◌<◌, ◌≤◌, List, [], ◌∷◌, get_or, mod-lt, mul-pos, arith}
+use Rattle.std.proofs.Common.{ℕ, zero, suc, ◌/◌, ◌%◌, ◌^◌, ◌<◌, ◌≤◌, [], ◌∷◌, get_or, mod-lt, mul-pos, arith}
 use native.Mathlib.Nat.{pow-le-pow_right}
 use Rattle.orders.specs.Ticks.{tick_of}
 

@@ -1,4 +1,6 @@
 // Orders and what is around them: the settings of a market, the terms of an order, what a member sends, and the refusals.
+#![tactic(auto)]
+
 pub mod capacity;
 mod checks;
 pub mod instruction;

@@ -1,4 +1,6 @@
 // Who is ahead, the queues of an auction, and its fills.
+#![tactic(auto)]
+
 mod edits;
 pub mod fills;
 pub mod interest;

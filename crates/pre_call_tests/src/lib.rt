@@ -1,7 +1,8 @@
 // Tests of settings, the row table, and the instructions of pre-call.
+#![tactic(auto)]
 
 #[cfg(test)]
-mod instructions;
+mod answers;
 #[cfg(test)]
 mod settings;
 #[cfg(test)]

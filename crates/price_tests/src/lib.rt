@@ -1,4 +1,5 @@
 // Tests of the trial price and of the fills: examples, and reckonings written apart.
+#![tactic(auto)]
 
 #[cfg(test)]
 mod examples;

@@ -1,4 +1,6 @@
 // The price of an auction over any readable book.
+#![tactic(auto)]
+
 mod best;
 pub mod depth;
 pub mod gather;

@@ -1,3 +1,5 @@
 // Quote requests, which wait for the Specialist.
+#![tactic(auto)]
+
 pub mod list;
 pub mod request;

@@ -1,4 +1,6 @@
 // Saved books: a book written as bytes, bytes read as a book, and a store loaded from them.
+#![tactic(auto)]
+
 pub mod accept;
 mod bytes;
 pub mod fault;

@@ -1,4 +1,5 @@
 // Tests of saved books: each fault at each field, round trips through both stores, and a decoder written apart.
+#![tactic(auto)]
 
 #[cfg(test)]
 mod entry;

@@ -1,4 +1,5 @@
 // Tests of triggered stops and settled fills, over both stores.
+#![tactic(auto)]
 
 #[cfg(test)]
 mod fills;

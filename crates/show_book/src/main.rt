@@ -1,4 +1,6 @@
 // Prints a saved book as a person reads it: its orders, what is open, and the trial price under a quote.
+#![tactic(auto)]
+
 use crate::line::Line;
 use crate::request::{Request, request_of};
 use book::Book;

@@ -1,4 +1,6 @@
 // The calls that the delayed twin of a day makes.
+#![tactic(auto)]
+
 ghost use Rattle.std.specs.Prelude.{◌≡◌, true, false, [], ◌∷◌, ◌++◌, map, take, IfOk, OnOk};
 ghost use Rattle.days.specs.Delayed.{outside, retold, sent_by};
 ghost use Rattle.days.specs.Delayed as delayed;

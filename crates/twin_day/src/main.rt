@@ -1,4 +1,6 @@
 // Reads a day from standard input, and prints it beside its delayed twin.
+#![tactic(auto)]
+
 mod panel;
 mod row;
 mod rows;

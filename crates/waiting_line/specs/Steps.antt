@@ -1,5 +1,5 @@
 -- What the steps of the code give.
-use Rattle.std.specs.Prelude.{◌≡◌, List, [], ◌∷◌, ◌++◌, length, drop, slice_set}
+use Rattle.std.specs.Prelude.{◌≡◌, [], ◌∷◌, ◌++◌, length, drop, slice_set}
 use Rattle.waiting_line.specs.Lines.{waiting, slot_at}
 use Rattle.waiting_line.specs.declared.line.WaitingLine.{WaitingLine}
 

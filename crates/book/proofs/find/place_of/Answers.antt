@@ -18,8 +18,8 @@ returns-then-terms-number g c =
     ∙ sym (found_here c.args.number (read g (goal.at.returns-then-terms-number g c).In-Some) same)
     ∙ c.loop-order.invariant
 
-pub overflow-add-place : goal.overflow-add-place
-overflow-add-place g c = omega (arith, (read g (goal.at.overflow-add-place g c).In-Some).within, c.in-Some.ensures.sound.few)
+pub overflow_add-place : goal.overflow_add-place
+overflow_add-place g c = omega (arith, (read g (goal.at.overflow_add-place g c).In-Some).within, c.in-Some.ensures.sound.few)
 
 pub loop-order-smaller : goal.loop-order-smaller
 loop-order-smaller g c = omega (arith, (read g (goal.at.loop-order-smaller g c).In-Some).within)
@@ -32,6 +32,6 @@ loop-order-preserved g c =
 pub returns : goal.returns
 returns g c =
     let ts = g.B.Book.orders c.args.book.now in
-    sym c.in-default.ensures.value
-    ∙ sym (at_drop_all (found c.args.number) ts c.loop-order.place (past ts _ c.in-default.ensures.value))
+    sym c.in_default.ensures.value
+    ∙ sym (at_drop_all (found c.args.number) ts c.loop-order.place (past ts _ c.in_default.ensures.value))
     ∙ c.loop-order.invariant

@@ -1,4 +1,4 @@
-use Rattle.std.proofs.Common.{◌≡◌, List, ap}
+use Rattle.std.proofs.Common.{ap}
 use Rattle.orders.specs.Told.{told}
 use Rattle.instructions.proofs.Conserving.{carried}
 use Rattle.instructions.proofs.carry_out.carry_out.Goals as goal

@@ -13,8 +13,8 @@ read g c = stands _ _ _ c.in-Some.ensures.value
 pub add-requires : goal.add-requires
 add-requires g c = omega (arith, c.loop-order.invariant.len, (read g (goal.at.add-requires g c).In-Some).within, c.in-Some.ensures.sound.few)
 
-pub overflow-add-place : goal.overflow-add-place
-overflow-add-place g c = omega (arith, (read g (goal.at.overflow-add-place g c).In-Some).within, c.in-Some.ensures.sound.few)
+pub overflow_add-place : goal.overflow_add-place
+overflow_add-place g c = omega (arith, (read g (goal.at.overflow_add-place g c).In-Some).within, c.in-Some.ensures.sound.few)
 
 pub loop-order-smaller : goal.loop-order-smaller
 loop-order-smaller g c = omega (arith, (read g (goal.at.loop-order-smaller g c).In-Some).within)
@@ -25,4 +25,4 @@ loop-order-preserved g c =
     (subst (λ t. Added c.args.quote t c.loop-order.parted c.add.new.self) c.terms.ensures c.add.ensures)
 
 pub returns : goal.returns
-returns g c = parting_all c.loop-order.invariant (past _ _ c.in-default.ensures.value) c.in-default.ensures.sound
+returns g c = parting_all c.loop-order.invariant (past _ _ c.in_default.ensures.value) c.in_default.ensures.sound

@@ -7,5 +7,5 @@ pub returns : goal.returns
 returns g c =
     record {
       value = search rules;
-      fair = subst (λ q. Fair q (after_stops q (g.B.Book.orders c.args.book.now)) c.trial.result) c.in-ok-matching.ensures.same c.trial.ensures.fair;
+      fair = subst (λ q. Fair q (after_stops q (g.B.Book.orders c.args.book.now)) c.trial.result) c.in_ok-matching.ensures.same c.trial.ensures.fair;
     }

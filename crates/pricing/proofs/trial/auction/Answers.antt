@@ -9,21 +9,21 @@ returns-then-best-eq0 c =
     let q = c.args.quote in
     let ts = c.args.orders.now in
     let tick = (grid_of c.args.settings).tick in
-    let value = none_answer q.quote ts tick c.args.stops c.best-of-best.result c.best-of-best.ensures c.if-best-eq0.true in
-    record { value = value; fair = fair_answer q.quote ts tick c.args.stops c.best-of-best.result c.best-of-best.ensures q.apart value }
+    let value = none_answer q.quote ts tick c.args.stops c.best_of-best.result c.best_of-best.ensures c.if-best-eq0.true in
+    record { value = value; fair = fair_answer q.quote ts tick c.args.stops c.best_of-best.result c.best_of-best.ensures q.apart value }
 
 pub price-price-requires : goal.price-price-requires
 price-price-requires c =
-    best_bounds c.args.quote.quote c.args.orders.now 0 0 c.best-of-best.result c.best-of-best.ensures c.args.quote.apart c.args.quote.top
+    best_bounds c.args.quote.quote c.args.orders.now 0 0 c.best_of-best.result c.best_of-best.ensures c.args.quote.apart c.args.quote.top
 
 pub returns : goal.returns
 returns c =
     let q = c.args.quote in
     let ts = c.args.orders.now in
     let tick = (grid_of c.args.settings).tick in
-    let d = c.depth-at-demand.result in
-    let s = c.depth-at-supply.result in
+    let d = c.depth_at-demand.result in
+    let s = c.depth_at-supply.result in
     let surplus : to_z w64 (of_z w64 (to_z w64 d -ℤ to_z w64 s)) ≡ pos d -ℤ pos s = omega (arith, ints) in
     let value =
-    some_answer q.quote ts tick c.args.stops c.best-of-best.result c.best-of-best.ensures c.if-best-eq0.false _ _ d s _ c.price-price.ensures c.depth-at-demand.ensures c.depth-at-supply.ensures c.min.ensures surplus in
-    record { value = value; fair = fair_answer q.quote ts tick c.args.stops c.best-of-best.result c.best-of-best.ensures q.apart value }
+    some_answer q.quote ts tick c.args.stops c.best_of-best.result c.best_of-best.ensures c.if-best-eq0.false _ _ d s _ c.price-price.ensures c.depth_at-demand.ensures c.depth_at-supply.ensures c.min.ensures surplus in
+    record { value = value; fair = fair_answer q.quote ts tick c.args.stops c.best_of-best.result c.best_of-best.ensures q.apart value }

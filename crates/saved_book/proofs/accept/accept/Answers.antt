@@ -14,7 +14,7 @@ returns-in-Ok c =
       value = (counted g bs c.in-Ok.count c.in-Ok.ensures).0;
       orders = refl;
       fault = tt;
-      saves_back = saves_back g bs (λ i. omega (arith, c.type-inv.bytes i));
+      saves_back = saves_back g bs (λ i. omega (arith, c.type_inv.bytes i));
     }
 
 pub returns-in-Err : goal.returns-in-Err
@@ -26,5 +26,5 @@ returns-in-Err c =
       value = value;
       orders = refl;
       fault = subst (λ a. IfErr a (NamedFault bs)) (sym value) (named_fault g bs);
-      saves_back = saves_back g bs (λ i. omega (arith, c.type-inv.bytes i));
+      saves_back = saves_back g bs (λ i. omega (arith, c.type_inv.bytes i));
     }

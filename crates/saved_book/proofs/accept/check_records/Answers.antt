@@ -20,7 +20,7 @@ loop-place-preserved c =
     let n = c.args.count in
     let k = c.loop-place.place in
     ap (λ m. is_ok (orders_upto g bs n m)) (add-one k)
-    ∙ checked_ok g bs n k c.in-default.field-0 c.loop-place.invariant c.in-default.ensures
+    ∙ checked_ok g bs n k c.in_default.field-0 c.loop-place.invariant c.in_default.ensures
 
 pub returns : goal.returns
 returns c =

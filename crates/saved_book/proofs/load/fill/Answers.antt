@@ -11,8 +11,8 @@ use Rattle.saved_book.proofs.load.fill.Goals.{In-Some}
 read : (g : given.Over) (c : In-Some g) → Stands (g.B.Book.orders c.args.book.now) c.loop-order.place (terms_of c.in-Some.order)
 read g c = stands _ _ _ c.in-Some.ensures.value
 
-pub overflow-add-place : goal.overflow-add-place
-overflow-add-place g c = omega (arith, (read g (goal.at.overflow-add-place g c).In-Some).within, c.in-Some.ensures.sound.few)
+pub overflow_add-place : goal.overflow_add-place
+overflow_add-place g c = omega (arith, (read g (goal.at.overflow_add-place g c).In-Some).within, c.in-Some.ensures.sound.few)
 
 pub loop-order-smaller : goal.loop-order-smaller
 loop-order-smaller g c = omega (arith, (read g (goal.at.loop-order-smaller g c).In-Some).within)
@@ -32,4 +32,4 @@ loop-order-preserved g c =
 pub returns : goal.returns
 returns g c =
     let ts = g.B.Book.orders c.args.book.now in
-    record { after = c.loop-order.invariant.0 ∙ take_all c.loop-order.place ts (past ts c.loop-order.place c.in-default.ensures.value); same = c.loop-order.invariant.1 }
+    record { after = c.loop-order.invariant.0 ∙ take_all c.loop-order.place ts (past ts c.loop-order.place c.in_default.ensures.value); same = c.loop-order.invariant.1 }

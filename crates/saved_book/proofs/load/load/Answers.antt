@@ -6,16 +6,16 @@ use Rattle.saved_book.proofs.Filling.{loaded, unfit, empty_room}
 use Rattle.saved_book.proofs.Opening.{accepted}
 use Rattle.saved_book.proofs.load.load.Given as given
 use Rattle.saved_book.proofs.load.load.Goals as goal
-use Rattle.saved_book.proofs.load.load.Goals.{In-ok-answer}
+use Rattle.saved_book.proofs.load.load.Goals.{In_ok-answer}
 
-is : (g : given.Over) (c : In-ok-answer g) → decode (grid_of c.args.settings) c.args.bytes.now ≡ Ok (orders_in (grid_of c.args.settings) c.args.bytes.now)
-is g c = accepted (grid_of c.args.settings) c.args.bytes.now c.in-ok-answer.field-0 (sym c.in-ok-answer.was ∙ c.accept_answer.ensures.value)
+is : (g : given.Over) (c : In_ok-answer g) → decode (grid_of c.args.settings) c.args.bytes.now ≡ Ok (orders_in (grid_of c.args.settings) c.args.bytes.now)
+is g c = accepted (grid_of c.args.settings) c.args.bytes.now c.in_ok-answer.field-0 (sym c.in_ok-answer.was ∙ c.accept-answer.ensures.value)
 
 pub returns-then-not-takes : goal.returns-then-not-takes
 returns-then-not-takes g c =
     let s = c.args.store.now in
-    let done = unfit (decode (grid_of c.args.settings) c.args.bytes.now) (orders_in (grid_of c.args.settings) c.args.bytes.now) (g.S.Store.room s) c.count.result (g.S.Book.orders s) (is g (goal.at.returns-then-not-takes g c).In-ok-answer) (c.count.ensures.value ∙ ap length c.accept_answer.ensures.orders) c.if-not-takes.ensures in
-    record { value = done.value; after = done.left; same = refl; saves_back = c.accept_answer.ensures.saves_back }
+    let done = unfit (decode (grid_of c.args.settings) c.args.bytes.now) (orders_in (grid_of c.args.settings) c.args.bytes.now) (g.S.Store.room s) c.count.result (g.S.Book.orders s) (is g (goal.at.returns-then-not-takes g c).In_ok-answer) (c.count.ensures.value ∙ ap length c.accept-answer.ensures.orders) c.if-not-takes.ensures in
+    record { value = done.value; after = done.left; same = refl; saves_back = c.accept-answer.ensures.saves_back }
 
 pub fill-requires : goal.fill-requires
 fill-requires g c =
@@ -26,10 +26,10 @@ fill-requires g c =
 pub returns : goal.returns
 returns g c =
     let s = c.args.store.now in
-    let done = loaded (decode (grid_of c.args.settings) c.args.bytes.now) (orders_in (grid_of c.args.settings) c.args.bytes.now) (g.S.Store.room s) c.count.result (g.S.Book.orders s) (is g (goal.at.returns g c).In-ok-answer) (c.count.ensures.value ∙ ap length c.accept_answer.ensures.orders) c.if-not-takes.ensures in
+    let done = loaded (decode (grid_of c.args.settings) c.args.bytes.now) (orders_in (grid_of c.args.settings) c.args.bytes.now) (g.S.Store.room s) c.count.result (g.S.Book.orders s) (is g (goal.at.returns g c).In_ok-answer) (c.count.ensures.value ∙ ap length c.accept-answer.ensures.orders) c.if-not-takes.ensures in
     record {
       value = done.value;
-      after = c.fill.ensures.after ∙ c.accept_answer.ensures.orders ∙ done.left;
+      after = c.fill.ensures.after ∙ c.accept-answer.ensures.orders ∙ done.left;
       same = c.fill.ensures.same;
-      saves_back = c.accept_answer.ensures.saves_back;
+      saves_back = c.accept-answer.ensures.saves_back;
     }

@@ -14,17 +14,17 @@ use Rattle.saved_book.proofs.save.put_numbers.Goals.{In-Some}
 read : (g : given.Over) (c : In-Some g) → Stands (g.B.Book.orders c.args.book.now) c.loop-order.place (terms_of c.in-Some.order)
 read g c = stands _ _ _ c.in-Some.ensures.value
 
-pub overflow-mul-place : goal.overflow-mul-place
-overflow-mul-place g c = omega (arith, (read g (goal.at.overflow-mul-place g c).In-Some).within, c.in-Some.ensures.sound.few)
+pub overflow_mul-place : goal.overflow_mul-place
+overflow_mul-place g c = omega (arith, (read g (goal.at.overflow_mul-place g c).In-Some).within, c.in-Some.ensures.sound.few)
 
-pub overflow-add-place : goal.overflow-add-place
-overflow-add-place g c = omega (arith, (read g (goal.at.overflow-add-place g c).In-Some).within, c.in-Some.ensures.sound.few)
+pub overflow_add-place : goal.overflow_add-place
+overflow_add-place g c = omega (arith, (read g (goal.at.overflow_add-place g c).In-Some).within, c.in-Some.ensures.sound.few)
 
 pub put-requires : goal.put-requires
-put-requires g c = omega (arith, (read g (goal.at.put-requires g c).In-Some).within, c.requires, c.loop-order.auto.out, ap length c.to-le-bytes.ensures)
+put-requires g c = omega (arith, (read g (goal.at.put-requires g c).In-Some).within, c.requires, c.loop-order.auto.out, ap length c.to_le_bytes.ensures)
 
-pub overflow-add-place-in-Some : goal.overflow-add-place-in-Some
-overflow-add-place-in-Some g c = omega (arith, (read g (goal.at.overflow-add-place-in-Some g c).In-Some).within, c.in-Some.ensures.sound.few)
+pub overflow_add-place-in-Some : goal.overflow_add-place-in-Some
+overflow_add-place-in-Some g c = omega (arith, (read g (goal.at.overflow_add-place-in-Some g c).In-Some).within, c.in-Some.ensures.sound.few)
 
 pub loop-order-smaller : goal.loop-order-smaller
 loop-order-smaller g c = omega (arith, (read g (goal.at.loop-order-smaller g c).In-Some).within)
@@ -36,7 +36,7 @@ loop-order-preserved g c =
     let t = terms_of c.in-Some.order in
     let s = read g (goal.at.loop-order-preserved g c).In-Some in
     let fits : (terms_of c.in-Some.order).number < 2 ^ 32 = omega arith in (
-      wrote_more number_bytes 4 (λ _. refl) 8 ts c.args.out.now c.requires k (8 + 4 * k) t c.to-le-bytes.result c.loop-order.out _ s refl (omega (arith, s.within, c.requires)) c.loop-order.invariant.0 (c.to-le-bytes.ensures ∙ ap (λ u. four u.number) c.terms-number.ensures) c.put.ensures,
+      wrote_more number_bytes 4 (λ _. refl) 8 ts c.args.out.now c.requires k (8 + 4 * k) t c.to_le_bytes.result c.loop-order.out _ s refl (omega (arith, s.within, c.requires)) c.loop-order.invariant.0 (c.to_le_bytes.ensures ∙ ap (λ u. four u.number) c.terms-number.ensures) c.put.ensures,
       subst (All (λ t. t.number < 2 ^ 32)) (sym (take_there k ts (drop (k + 1) ts) t s.first)) (All-push (λ t. t.number < 2 ^ 32) (take k ts) t c.loop-order.invariant.1 fits),
     )
 
@@ -44,5 +44,5 @@ pub returns : goal.returns
 returns g c =
     let ts = g.B.Book.orders c.args.book.now in
     let k = c.loop-order.place in
-    let all = past ts k c.in-default.ensures.value in
+    let all = past ts k c.in_default.ensures.value in
     record { after = wrote_all number_bytes 4 (λ _. refl) 8 ts c.args.out.now c.requires k c.loop-order.out all c.loop-order.invariant.0; fit = subst (All (λ t. t.number < 2 ^ 32)) (take_all k ts all) c.loop-order.invariant.1 }

@@ -17,17 +17,17 @@ read g c = stands _ _ _ c.in-Some.ensures.value
 pub loop-order-init : goal.loop-order-init
 loop-order-init g c = (wrote_none c.args.at c.args.out.now, tt)
 
-pub overflow-mul-place : goal.overflow-mul-place
-overflow-mul-place g c = omega (arith, (read g (goal.at.overflow-mul-place g c).In-Some).within, c.in-Some.ensures.sound.few)
+pub overflow_mul-place : goal.overflow_mul-place
+overflow_mul-place g c = omega (arith, (read g (goal.at.overflow_mul-place g c).In-Some).within, c.in-Some.ensures.sound.few)
 
-pub overflow-add-at : goal.overflow-add-at
-overflow-add-at g c = omega (arith, (read g (goal.at.overflow-add-at g c).In-Some).within, c.requires)
+pub overflow_add-at : goal.overflow_add-at
+overflow_add-at g c = omega (arith, (read g (goal.at.overflow_add-at g c).In-Some).within, c.requires)
 
 pub put-requires : goal.put-requires
 put-requires g c = omega (arith, (read g (goal.at.put-requires g c).In-Some).within, c.requires, c.loop-order.auto.out, ap length c.record_bytes.ensures)
 
-pub overflow-add-place : goal.overflow-add-place
-overflow-add-place g c = omega (arith, (read g (goal.at.overflow-add-place g c).In-Some).within, c.in-Some.ensures.sound.few)
+pub overflow_add-place : goal.overflow_add-place
+overflow_add-place g c = omega (arith, (read g (goal.at.overflow_add-place g c).In-Some).within, c.in-Some.ensures.sound.few)
 
 pub loop-order-smaller : goal.loop-order-smaller
 loop-order-smaller g c = omega (arith, (read g (goal.at.loop-order-smaller g c).In-Some).within)
@@ -47,5 +47,5 @@ pub returns : goal.returns
 returns g c =
     let ts = g.B.Book.orders c.args.book.now in
     let k = c.loop-order.place in
-    let all = past ts k c.in-default.ensures.value in
+    let all = past ts k c.in_default.ensures.value in
     record { after = wrote_all record_bytes 16 (λ _. refl) c.args.at ts c.args.out.now c.requires k c.loop-order.out all c.loop-order.invariant.0; fit = subst (All (λ t. t.participant < 2 ^ 16)) (take_all k ts all) c.loop-order.invariant.1 }

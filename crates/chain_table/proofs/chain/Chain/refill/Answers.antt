@@ -9,13 +9,13 @@ returns c =
     let t = c.args.self.now in
     let rows = t.rows.items in
     let at = c.args.at in
-    let row = c.index-mut.result.now in
+    let row = c.index_mut.result.now in
     let new : Row = record { order = c.args.order; links = row.links } in
     let within : at < length rows = omega (arith, t.rows.ok.0) in
     record {
       here = new_field told_by rows at new no_terms within;
       off = λ i n. off_field told_by rows at i new no_terms n;
-      links = λ i. ap (λ l. cond (eqb i 256) t.ends (get_or l i no_links)) (same_field links_of rows at row new no_links within c.index-mut.ensures.value refl);
+      links = λ i. ap (λ l. cond (eqb i 256) t.ends (get_or l i no_links)) (same_field links_of rows at row new no_links within c.index_mut.ensures.value refl);
       len = refl;
       cap = refl;
     }

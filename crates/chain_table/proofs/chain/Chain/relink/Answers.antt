@@ -10,7 +10,7 @@ returns-else-at-eq-END c =
     let t = c.args.self.now in
     let rows = t.rows.items in
     let at = c.args.at in
-    let row = c.index-mut.result.now in
+    let row = c.index_mut.result.now in
     let new : Row = record { order = row.order; links = c.args.links } in
     let within : at < length rows = omega (arith, t.rows.ok.0, c.requires c.if-at-eq-END.false) in
     let other : eqb at 256 ≡ false = ne_eqb _ _ c.if-at-eq-END.false in
@@ -18,7 +18,7 @@ returns-else-at-eq-END c =
       here = rw other (new_field links_of rows at new no_links within);
       off = λ i n. ap (λ z. cond (eqb i 256) t.ends z) (off_field links_of rows at i new no_links n);
       same = record {
-        told = λ i. ap (λ l. get_or l i no_terms) (same_field told_by rows at row new no_terms within c.index-mut.ensures.value refl);
+        told = λ i. ap (λ l. get_or l i no_terms) (same_field told_by rows at row new no_terms within c.index_mut.ensures.value refl);
         len = refl;
         cap = refl;
       };

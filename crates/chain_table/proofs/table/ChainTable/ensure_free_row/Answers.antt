@@ -9,8 +9,8 @@ added : (c : After-push) →
     Holding c.push.new.self c.args.self.now.count c.args.self.now.count c.args.self.now.capacity (rows_of c.args.self.now)
 added c = grown c.args.self.now (c.if-self-len.true ∙ c.len.ensures) c.requires c.push.ensures
 
-pub invariant-of-self : goal.invariant-of-self
-invariant-of-self c = closed (added c)
+pub invariant_of-self : goal.invariant_of-self
+invariant_of-self c = closed (added c)
 
 pub returns-then-self-len : goal.returns-then-self-len
 returns-then-self-len c =

@@ -7,4 +7,4 @@ use Rattle.chain_table.proofs.table.ChainTable.holds.Goals as goal
 pub returns : goal.returns
 returns c =
     let t = c.args.self.now in
-    c.is-some.ensures ∙ ap is_some c.row-of.ensures ∙ sym (held_sought c.args.number (terms_at t.chain) (path_of t))
+    c.is_some.ensures ∙ ap is_some c.row_of.ensures ∙ sym (held_sought c.args.number (terms_at t.chain) (path_of t))

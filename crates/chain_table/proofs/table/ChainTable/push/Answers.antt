@@ -23,20 +23,20 @@ returns-then-self c =
     let full : eqb (length (rows_of t)) t.capacity ≡ true = eq-eqb _ _ (omega (arith, rows_length t)) in
     record { value = rw (h, full); after = rw (h, full); kept = table_kept t }
 
-pub ensure-free-row-requires : goal.ensure-free-row-requires
-ensure-free-row-requires c = let t = c.args.self.now in omega (arith, t.counted, t.within)
+pub ensure_free_row-requires : goal.ensure_free_row-requires
+ensure_free_row-requires c = let t = c.args.self.now in omega (arith, t.counted, t.within)
 
-pub use-free-row-requires : goal.use-free-row-requires
-use-free-row-requires c =
-    let h = told (goal.at.use-free-row-requires c).After-holds ∙ c.if-holds.false in
-    (ap (held (terms_of c.args.order).number) c.ensure-free-row.ensures.list ∙ h, c.ensure-free-row.ensures.spare)
+pub use_free_row-requires : goal.use_free_row-requires
+use_free_row-requires c =
+    let h = told (goal.at.use_free_row-requires c).After-holds ∙ c.if-holds.false in
+    record { apart = ap (held (terms_of c.args.order).number) c.ensure_free_row.ensures.list ∙ h; spare = c.ensure_free_row.ensures.spare }
 
 pub returns : goal.returns
 returns c =
     let t = c.args.self.now in
-    let f = c.ensure-free-row.ensures in
-    let u = c.use-free-row.new.self in
+    let f = c.ensure_free_row.ensures in
+    let u = c.use_free_row.new.self in
     let h = told (goal.at.returns c).After-holds ∙ c.if-holds.false in
     let room : eqb (length (rows_of t)) t.capacity ≡ false = ne_eqb _ _ (omega (arith, rows_length t)) in
-    let last = c.use-free-row.ensures.list ∙ ap (λ ts. ts ++ terms_of c.args.order ∷ []) f.list in
-    record { value = rw (h, room); after = rw (h, room) last; kept = kept (whole u) t.capacity (c.use-free-row.ensures.same ∙ f.same) }
+    let last = c.use_free_row.ensures.list ∙ ap (λ ts. ts ++ terms_of c.args.order ∷ []) f.list in
+    record { value = rw (h, room); after = rw (h, room) last; kept = kept (whole u) t.capacity (c.use_free_row.ensures.same ∙ f.same) }

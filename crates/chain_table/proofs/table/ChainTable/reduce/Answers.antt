@@ -12,10 +12,10 @@ use Rattle.chain_table.proofs.Writes.{row_told}
 use Rattle.chain_table.proofs.table.ChainTable.reduce.Goals as goal
 use Rattle.chain_table.proofs.table.ChainTable.reduce.Goals.{After-index, After-refill}
 
-pub returns-in-default : goal.returns-in-default
-returns-in-default c =
+pub returns-in_default : goal.returns-in_default
+returns-in_default c =
     let t = c.args.self.now in
-    let none = none_at t c.args.number c.in-default.ensures in
+    let none = none_at t c.args.number c.in_default.ensures in
     record { value = rw none; after = rw none; kept = table_kept t }
 
 pub index-requires : goal.index-requires
@@ -40,12 +40,12 @@ written : (c : After-refill) →
     Holding c.refill.new.self c.args.self.now.count c.args.self.now.free c.args.self.now.capacity (lowered c.args.number c.args.quantity (rows_of c.args.self.now))
 written c =
     let t = c.args.self.now in
-    let i = (goal.at.invariant-of-self c).After-index in
+    let i = (goal.at.invariant_of-self c).After-index in
     let new : terms_of c.in-Some-lowered.order ≡ with_quantity (terms_at t.chain c.in-Some.at) c.args.quantity = (given _ _ _ c.in-Some-lowered.ensures).1 ∙ ap (λ x. with_quantity x c.args.quantity) (read i) in
     rewritten (at_row i) (subst (λ x. Refilled t.chain c.refill.new.self c.in-Some.at x) new c.refill.ensures)
 
-pub invariant-of-self : goal.invariant-of-self
-invariant-of-self c = closed (written c)
+pub invariant_of-self : goal.invariant_of-self
+invariant_of-self c = closed (written c)
 
 pub returns-in-Some-lowered : goal.returns-in-Some-lowered
 returns-in-Some-lowered c =

@@ -14,7 +14,7 @@ pub join-requires : goal.join-requires
 join-requires c =
     let t = c.args.self.now in
     let e = sym c.neighbours-before.ensures in
-    (subst (λ l. Spot t.chain l.before) e (used_before c.requires), subst (λ l. Spot t.chain l.after) e (used_after c.requires))
+    record { first = subst (λ l. Spot t.chain l.before) e (used_before c.requires); second = subst (λ l. Spot t.chain l.after) e (used_after c.requires) }
 
 pub relink-requires : goal.relink-requires
 relink-requires c = λ _. omega (arith, c.join.ensures.same.len, used_made c.requires)
@@ -23,8 +23,8 @@ left : (c : After-relink) →
     Holding c.relink.new.self (c.args.self.now.count - 1) c.args.at c.args.self.now.capacity (without (number_in c.args.self.now c.args.at) (rows_of c.args.self.now))
 left c = released c.requires c.neighbours-before.ensures refl c.join.ensures c.relink.ensures
 
-pub invariant-of-self : goal.invariant-of-self
-invariant-of-self c = closed (left c)
+pub invariant_of-self : goal.invariant_of-self
+invariant_of-self c = closed (left c)
 
 pub returns : goal.returns
 returns c = record { list = list_is (left (goal.at.returns c).After-relink); same = refl }

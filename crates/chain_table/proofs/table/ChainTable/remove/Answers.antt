@@ -9,11 +9,11 @@ use Rattle.chain_table.proofs.Writes.{row_told}
 use Rattle.chain_table.proofs.table.ChainTable.remove.Goals as goal
 use Rattle.chain_table.proofs.table.ChainTable.remove.Goals.{In-Some}
 
-pub returns-in-default : goal.returns-in-default
-returns-in-default c =
+pub returns-in_default : goal.returns-in_default
+returns-in_default c =
     let t = c.args.self.now in
     let n = c.args.number in
-    let none = none_at t n c.in-default.ensures in
+    let none = none_at t n c.in_default.ensures in
     record { value = sym none; after = sym (without_none n (rows_of t) (not_held n (rows_of t) none)); kept = table_kept t }
 
 at_row : (c : In-Some) → Holds c.args.self.now c.args.number c.in-Some.at

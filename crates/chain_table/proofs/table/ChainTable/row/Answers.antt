@@ -9,13 +9,13 @@ use Rattle.chain_table.proofs.Tables.{OnPath, told_there}
 use Rattle.chain_table.proofs.table.ChainTable.row.Goals as goal
 
 pub index-requires : goal.index-requires
-index-requires c = omega (arith, c.row-at.ensures, path_row c.args.self.now c.args.place (omega arith))
+index-requires c = omega (arith, c.row_at.ensures, path_row c.args.self.now c.args.place (omega arith))
 
 pub returns-then-place-self : goal.returns-then-place-self
 returns-then-place-self c =
     let t = c.args.self.now in
     let place = c.args.place in
-    let p : OnPath t place c.row-at.result c.index.result.now = record { within = omega arith; here = c.row-at.ensures; read = c.index.ensures } in
+    let p : OnPath t place c.row_at.result c.index.result.now = record { within = omega arith; here = c.row_at.ensures; read = c.index.ensures } in
     let there = get_or-map (terms_at t.chain) (path_of t) place 256 no_terms (omega (arith, (opened t).long)) in
     record {
       value = sym (slice_get-get_or (rows_of t) place no_terms (omega (arith, rows_length t)) ∙ ap Some (there ∙ sym (told_there p)));

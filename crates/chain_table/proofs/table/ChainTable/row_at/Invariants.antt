@@ -3,4 +3,4 @@ use Rattle.chain_table.specs.Steps.{path_of}
 use Rattle.chain_table.proofs.table.ChainTable.row_at.Given as goal
 
 abbrev pub invariant-loop-step : goal.invariant-loop-step
-invariant-loop-step l = l.at ≡ get_or (path_of l.self) l.-step 256
+invariant-loop-step l = l.at ≡ get_or (path_of l.self) l._step 256

@@ -11,9 +11,9 @@ pub loop-step-init : goal.loop-step-init
 loop-step-init c = (path_start c.args.self.now, refl)
 
 pub index-row-requires : goal.index-row-requires
-index-row-requires c = omega (arith, c.loop-step.invariant.0, path_row c.args.self.now c.loop-step.-step (omega arith))
+index-row-requires c = omega (arith, c.loop-step.invariant.0, path_row c.args.self.now c.loop-step._step (omega arith))
 
-read : (c : After-terms) → OnPath c.args.self.now c.loop-step.-step c.loop-step.at c.index-row.result.now
+read : (c : After-terms) → OnPath c.args.self.now c.loop-step._step c.loop-step.at c.index-row.result.now
 read c = record { within = omega arith; here = c.loop-step.invariant.0; read = c.index-row.ensures }
 
 pub returns-then-terms-number : goal.returns-then-terms-number
@@ -29,4 +29,4 @@ loop-step-preserved c =
 pub returns : goal.returns
 returns c =
     let t = c.args.self.now in
-    sym (at_drop_all (first_with c.args.number (terms_at t.chain)) (path_of t) c.loop-step.-step (omega (arith, (opened t).long))) ∙ c.loop-step.invariant.1
+    sym (at_drop_all (first_with c.args.number (terms_at t.chain)) (path_of t) c.loop-step._step (omega (arith, (opened t).long))) ∙ c.loop-step.invariant.1

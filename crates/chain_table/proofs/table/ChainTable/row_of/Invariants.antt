@@ -5,5 +5,5 @@ use Rattle.chain_table.proofs.table.ChainTable.row_of.Given as goal
 
 abbrev pub invariant-loop-step : goal.invariant-loop-step
 invariant-loop-step l =
-    (l.at ≡ get_or (path_of l.self) l.-step 256)
-    × (first_with l.number (terms_at l.self.chain) (drop l.-step (path_of l.self)) ≡ row_holding l.number l.self)
+    (l.at ≡ get_or (path_of l.self) l._step 256)
+    × (first_with l.number (terms_at l.self.chain) (drop l._step (path_of l.self)) ≡ row_holding l.number l.self)

@@ -10,13 +10,13 @@ loop-terms-init c =
     let q = c.args.self.quote in
     let ts = c.args.orders.now in
     ap (λ b. best_with q ts b (limit_levels q ts))
-    (c.better-best.ensures ∙ ap (λ b. better_of b c.best_at.result) c.best-at-bid.ensures ∙ ap (better_of (best_at q ts q.bid)) c.best_at.ensures)
+    (c.better-best.ensures ∙ ap (λ b. better_of b c.best_at.result) c.best_at-bid.ensures ∙ ap (better_of (best_at q ts q.bid)) c.best_at.ensures)
 
 pub loop-terms-preserved : goal.loop-terms-preserved
 loop-terms-preserved c =
     let q = c.args.self.quote in
     let ts = c.args.orders.now in
-    folded_more (λ a p. better_of a (best_at q ts p)) (λ t. level_of q t.kind) (at_place ts c.loop-terms.terms-index _ c.loop-terms-test.true) _ _ _ c.best-with-best.ensures c.loop-terms.invariant
+    folded_more (λ a p. better_of a (best_at q ts p)) (λ t. level_of q t.kind) (at_place ts c.loop-terms.terms-index _ c.loop-terms-test.true) _ _ _ c.best_with-best.ensures c.loop-terms.invariant
 
 pub returns : goal.returns
 returns c =

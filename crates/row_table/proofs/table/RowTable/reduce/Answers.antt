@@ -10,8 +10,8 @@ use Rattle.row_table.specs.Places.{Found, row_found, row_lowered, not_found, row
 use Rattle.row_table.proofs.table.RowTable.reduce.Goals as goal
 use Rattle.row_table.proofs.table.RowTable.reduce.Goals.{After-index}
 
-at_place : (c : After-index) → Found c.args.number (vec_items c.args.self.now.rows) c.place-of-place.result c.index.result.now
-at_place c = record { place = c.place-of-place.ensures; within = omega (arith, c.args.self.now.rows.ok.0); is = c.index.ensures }
+at_place : (c : After-index) → Found c.args.number (vec_items c.args.self.now.rows) c.place_of-place.result c.index.result.now
+at_place c = record { place = c.place_of-place.ensures; within = omega (arith, c.args.self.now.rows.ok.0); is = c.index.ensures }
 
 pub returns-then-place-len : goal.returns-then-place-len
 returns-then-place-len c =
@@ -22,19 +22,19 @@ returns-then-place-len c =
 
 -- the rows after the write
 written : (i : After-index) (p : Order) → terms_of p ≡ with_quantity (terms_of i.index.result.now) i.args.quantity →
-    map terms_of (set (vec_items i.args.self.now.rows) i.place-of-place.result p) ≡ lowered i.args.number i.args.quantity (rows_of i.args.self.now)
+    map terms_of (set (vec_items i.args.self.now.rows) i.place_of-place.result p) ≡ lowered i.args.number i.args.quantity (rows_of i.args.self.now)
 written i p e = row_lowered i.args.quantity p (at_place i) e
 
 apart : (i : After-index) (p : Order) → terms_of p ≡ with_quantity (terms_of i.index.result.now) i.args.quantity →
-    distinct (map terms_of (set (vec_items i.args.self.now.rows) i.place-of-place.result p)) ≡ true
+    distinct (map terms_of (set (vec_items i.args.self.now.rows) i.place_of-place.result p)) ≡ true
 apart i p e =
     let t = i.args.self.now in
     ap distinct (written i p e) ∙ distinct_lowered i.args.number i.args.quantity (rows_of t) ∙ t.apart
 
-pub invariant-of-self : goal.invariant-of-self
-invariant-of-self c =
+pub invariant_of-self : goal.invariant_of-self
+invariant_of-self c =
     let t = c.args.self.now in
-    (t.most, (t.within, (t.reserved, (apart (goal.at.invariant-of-self c).After-index c.in-Some.order (given _ _ _ c.in-Some.ensures).1, tt))))
+    record { most = t.most; within = t.within; reserved = t.reserved; apart = apart (goal.at.invariant_of-self c).After-index c.in-Some.order (given _ _ _ c.in-Some.ensures).1 }
 
 pub returns-in-Some : goal.returns-in-Some
 returns-in-Some c =
@@ -46,7 +46,7 @@ returns-in-Some c =
     record {
       value = rw (some, may);
       after = rw (some, may) (written i c.in-Some.order g.1);
-      kept = rows_kept (set (vec_items t.rows) c.place-of-place.result c.in-Some.order) t.capacity t.most (simp length-set (omega (arith, t.within, t.rows.ok.0))) (apart i c.in-Some.order g.1);
+      kept = rows_kept (set (vec_items t.rows) c.place_of-place.result c.in-Some.order) t.capacity t.most (simp length-set (omega (arith, t.within, t.rows.ok.0))) (apart i c.in-Some.order g.1);
     }
 
 pub returns-in-None : goal.returns-in-None

@@ -1,4 +1,4 @@
-use Rattle.std.proofs.Common.{◌≡◌, ◌≤◌, true, map, length, vec_items, sym, refl, ap, ◌∙◌, arith}
+use Rattle.std.proofs.Common.{◌≡◌, ◌≤◌, true, map, length, vec_items, ap, ◌∙◌, arith}
 use Rattle.orders.specs.Told.{terms_of}
 use Rattle.book.proofs.Laws.{distinct_without}
 use Rattle.book.specs.Lists.{without, distinct}
@@ -7,8 +7,8 @@ use Rattle.row_table.specs.Places.{Found, row_found, row_removed, not_found, not
 use Rattle.row_table.proofs.table.RowTable.remove.Goals as goal
 use Rattle.row_table.proofs.table.RowTable.remove.Goals.{After-remove}
 
-at_place : (c : After-remove) → Found c.args.number (vec_items c.args.self.now.rows) c.place-of-place.result c.remove.result
-at_place c = record { place = c.place-of-place.ensures; within = omega (arith, c.args.self.now.rows.ok.0); is = c.remove.ensures.value }
+at_place : (c : After-remove) → Found c.args.number (vec_items c.args.self.now.rows) c.place_of-place.result c.remove.result
+at_place c = record { place = c.place_of-place.ensures; within = omega (arith, c.args.self.now.rows.ok.0); is = c.remove.ensures.value }
 
 left : (c : After-remove) → map terms_of (vec_items c.remove.new.self) ≡ without c.args.number (rows_of c.args.self.now)
 left c = ap (map terms_of) c.remove.ensures.items ∙ row_removed (at_place c)
@@ -18,8 +18,9 @@ apart c =
     let t = c.args.self.now in
     ap distinct (left c) ∙ distinct_without c.args.number (rows_of t) t.apart
 
-pub invariant-of-self : goal.invariant-of-self
-invariant-of-self c = (c.args.self.now.most, (omega arith, (omega arith, (apart (goal.at.invariant-of-self c).After-remove, tt))))
+pub invariant_of-self : goal.invariant_of-self
+invariant_of-self c =
+    record { most = c.args.self.now.most; within = omega arith; reserved = omega arith; apart = apart (goal.at.invariant_of-self c).After-remove }
 
 pub returns-then-place-len : goal.returns-then-place-len
 returns-then-place-len c =

@@ -13,8 +13,8 @@ returns-then-place-self c =
     let ts = orders_in (grid_of b.settings) b.bytes.now in
     record { value = sym (slice_get_past ts c.args.place (omega (arith, b.counted))); sound = sound_in (grid_of b.settings) b.bytes.now }
 
-pub record-at-requires : goal.record-at-requires
-record-at-requires c =
+pub record_at-requires : goal.record_at-requires
+record_at-requires c =
     let b = c.args.self.now in
     let some : 0 < length (orders_in (grid_of b.settings) b.bytes.now) = omega (arith, b.counted) in
     let o = some_in (grid_of b.settings) b.bytes.now some in

@@ -9,12 +9,12 @@ slot-slot-requires g c =
     let long = length_waiting l.first l.count l.slots.now (omega (arith, l.inside)) l.within in
     record { some = omega (arith, c.requires); near = l.within }
 
-pub invariant-of-self : goal.invariant-of-self
-invariant-of-self g c =
+pub invariant_of-self : goal.invariant_of-self
+invariant_of-self g c =
     let l = c.args.self.now in
     let long = length_waiting l.first l.count l.slots.now (omega (arith, l.inside)) l.within in
     let same = length-set l.slots.now c.slot-slot.result c.args.record in
-    (omega (arith, c.requires), (omega (arith, l.inside), tt))
+    record { within = omega (arith, c.requires); inside = omega (arith, l.inside) }
 
 pub returns : goal.returns
 returns g c =
