@@ -1,5 +1,5 @@
 -- What an auction keeps, number by number.
-use Rattle.std.proofs.Common.{◌≡◌, ℕ, ◌+◌, ◌<◌, ◌≤◌, true, List, [], length, sum_by, sym, refl, ◌∙◌, arith}
+use Rattle.std.proofs.Common.{◌≡◌, ℕ, ◌+◌, ◌<◌, ◌≤◌, true, List, length, sum_by, sym, refl, ◌∙◌, arith}
 use Rattle.orders.specs.declared.terms.Terms.{Terms}
 use Rattle.book.specs.Figures.{open_of}
 use Rattle.book.specs.Lists.{distinct}

@@ -4,7 +4,6 @@ use Rattle.std.specs.List.{flat_map}
 use Rattle.day_lines.specs.Fields.{side_letter, type_letter, largest, largest_short}
 use Rattle.day_lines.specs.declared.line.Line.{Line}
 use Rattle.day_lines.specs.declared.line.Line.TheVariants as says
-use Rattle.orders.specs.declared.instruction.Instruction.{Instruction}
 use Rattle.orders.specs.declared.instruction.Instruction.TheVariants.{Enter, Change, Delete}
 use Rattle.orders.specs.declared.ticket.Ticket.{Ticket}
 

@@ -1,5 +1,5 @@
 -- No share is lost or invented in a day.
-use Rattle.std.proofs.Common.{◌≡◌, ℕ, ◌+◌, ◌≤◌, Bool, true, false, cond, eqb, List, [], ◌∷◌, ◌++◌, Some, None, Ok, Err, sum_by, Option, Result, sym, refl, ap, ◌∙◌, subst, arith}
+use Rattle.std.proofs.Common.{◌≡◌, ℕ, ◌+◌, ◌≤◌, Bool, true, false, cond, eqb, List, [], ◌∷◌, Some, None, Ok, Err, sum_by, Option, Result, refl, arith}
 use Rattle.std.proofs.lemmas.List.Sums.{sum_by-cons}
 use Rattle.orders.specs.Checks.{checked}
 use Rattle.orders.specs.declared.instruction.Instruction.{Instruction}
@@ -10,16 +10,16 @@ use Rattle.pricing.specs.declared.quote.Quote.{Quote}
 use Rattle.settling.specs.Fills.{traded_of}
 use Rattle.auction.specs.Auctions.{Auction, auction_under}
 use Rattle.book.specs.Lists.{distinct}
-use Rattle.instructions.specs.Conservation.{Conserved, added_by, taken_off_by}
+use Rattle.instructions.specs.Conservation.{added_by, taken_off_by}
 use Rattle.book.specs.Figures.{open_of}
 use Rattle.instructions.specs.declared.effect.Effect.{Effect}
 use Rattle.locked_stock.proofs.Balancing.{balance_at, receipts_balance, after_distinct}
-use Rattle.locked_stock.specs.Receipts.{receipts_of, book_after, entries_fault, receipts_add, receipts_take_off}
+use Rattle.locked_stock.specs.Receipts.{entries_fault}
 use Rattle.engine.proofs.Sending.{sent_conserved, sent_distinct}
 use Rattle.engine.specs.Freezes.{admitted_to, match_fault}
 use Rattle.engine.specs.PreCalls.{named, sent_answer, sent_book}
-use Rattle.days.specs.Conserved.{told_of, added_in, taken_off_in, traded_in, ConservedDay}
-use Rattle.days.specs.Days.{Rules, State, in_pre_call, in_freeze, book_of, Entry, Turn, answer_of, carried, waits, meets, lifts, turn, record_of, end_of}
+use Rattle.days.specs.Conserved.{told_of, added_in, taken_off_in, traded_in}
+use Rattle.days.specs.Days.{Rules, State, in_pre_call, in_freeze, book_of, Turn, answer_of, carried, waits, meets, lifts, turn, record_of, end_of}
 use Rattle.days.specs.declared.call.Call.{Call}
 use Rattle.days.specs.declared.call.Call.TheVariants.{Send, Freeze, Match, Lift}
 

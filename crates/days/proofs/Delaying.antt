@@ -22,7 +22,6 @@ use Rattle.days.specs.Sealed.{calls, but_receipts}
 use Rattle.days.specs.declared.answer.Answer.TheVariants as answer
 use Rattle.days.specs.declared.call.Call.{Call}
 use Rattle.days.specs.declared.call.Call.TheVariants.{Send, Freeze, Match, Lift}
-use Rattle.days.proofs.Records.{calls_record}
 use Rattle.days.proofs.Turning.{call_same}
 
 -- l is the record of its calls from s, and k the book at their end

@@ -1,12 +1,11 @@
 -- One more note at the end of a journal.
-use Rattle.std.proofs.Common.{◌≡◌, ℕ, ◌+◌, ◌-◌, ◌≤◌, List, [], ◌∷◌, ◌++◌, length, take, drop, sum_by, sym, refl, ap, ◌∙◌, arith, length-append, length-drop}
+use Rattle.std.proofs.Common.{◌≡◌, ℕ, ◌+◌, ◌-◌, List, [], ◌∷◌, ◌++◌, length, take, drop, sum_by, sym, refl, ap, ◌∙◌, arith, length-append, length-drop}
 use Rattle.std.proofs.lemmas.List.{take-append-le, drop-append-le, take-take}
 use Rattle.std.proofs.lemmas.List.Sums.{sum_by-cons, sum_by_push}
 use Rattle.orders.specs.declared.terms.Terms.{Terms}
 use Rattle.settling.specs.declared.fill.Fill.{Fill}
 use Rattle.locked_stock.specs.declared.receipt.Receipt.{Receipt}
 use Rattle.days.specs.Counts.{stops_in, fills_in, receipts_in}
-use Rattle.days.specs.Days.{Entry}
 use Rattle.days.specs.Journals.{entry_with, entries_of}
 use Rattle.days.specs.declared.answer.Answer.{Answer}
 use Rattle.days.specs.declared.note.Note.{Note}

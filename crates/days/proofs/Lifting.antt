@@ -1,5 +1,5 @@
 -- A lift, by its fault.
-use Rattle.std.proofs.Common.{◌≡◌, ℕ, ◌≤◌, List, [], ◌∷◌, ◌++◌, length, take, drop, Some, None, Ok, Err, Option, Result, sym, refl, ap, ◌∙◌, arith, length-append}
+use Rattle.std.proofs.Common.{◌≡◌, ℕ, ◌≤◌, List, [], ◌∷◌, ◌++◌, length, take, drop, Some, None, Ok, Err, Result, sym, refl, ap, ◌∙◌, arith, length-append}
 use Rattle.std.proofs.lemmas.List.{take_at}
 use Rattle.orders.proofs.Answering.{refused_by, not_refused, answered_as}
 use Rattle.orders.specs.Ticks.{Grid}
@@ -13,7 +13,7 @@ use Rattle.locked_stock.specs.Holding.{held_in}
 use Rattle.locked_stock.specs.Receipts.{receipts_of, entries_fault, Released}
 use Rattle.locked_stock.specs.declared.receipt.Receipt.{Receipt}
 use Rattle.days.proofs.Meeting.{length_receipts}
-use Rattle.days.specs.Days.{State, Entry, in_pre_call, in_freeze, plain, lifts, turn}
+use Rattle.days.specs.Days.{Entry, in_pre_call, in_freeze, plain, lifts}
 use Rattle.days.specs.Journals.{entry_with}
 use Rattle.days.specs.Phases.{rules_of}
 use Rattle.days.specs.Steps.{StockKept, Enough, Turned}

@@ -1,5 +1,5 @@
 -- A match in a freeze, by its fault.
-use Rattle.std.proofs.Common.{◌≡◌, ℕ, ◌≤◌, min, Bool, true, false, cond, ltb, List, [], ◌∷◌, ◌++◌, map, length, take, drop, Some, None, Ok, Err, filter, Option, Result, sym, refl, ap, ◌∙◌, subst, arith, length-append}
+use Rattle.std.proofs.Common.{◌≡◌, ℕ, ◌≤◌, min, Bool, true, false, cond, ltb, List, [], ◌∷◌, length, take, drop, Some, None, Ok, Err, filter, Option, Result, sym, refl, ap, ◌∙◌, arith, length-append}
 use Rattle.std.proofs.lemmas.List.{take_at, take_all, length-map}
 use Rattle.std.proofs.lemmas.List.Sums.{length-filter}
 use Rattle.std.proofs.lemmas.Bool.Decides.{nat_tests}
@@ -28,12 +28,10 @@ use Rattle.engine.specs.Freezes.{match_fault, matched_as}
 use Rattle.engine.specs.Matches.{match_refusal, MatchHeld}
 use Rattle.engine.specs.declared.matched.Matched.{Matched}
 use Rattle.days.specs.Counts.{stops_in, fills_in, receipts_in}
-use Rattle.days.specs.Days.{State, in_pre_call, in_freeze, Turn, plain, meets, turn}
-use Rattle.days.specs.Journals.{entry_with}
+use Rattle.days.specs.Days.{State, in_pre_call, in_freeze, Turn, meets}
 use Rattle.days.specs.Meets.{call_of, SameFault, MatchTold}
 use Rattle.days.specs.Phases.{rules_of}
 use Rattle.days.specs.Steps.{StockKept}
-use Rattle.days.specs.declared.answer.Answer.{Answer}
 use Rattle.days.specs.declared.answer.Answer.TheVariants as answer
 use Rattle.days.specs.declared.match_call.MatchCall.{MatchCall}
 

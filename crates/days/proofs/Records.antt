@@ -3,7 +3,6 @@ use Rattle.std.proofs.Common.{◌≡◌, List, [], ◌∷◌, ◌++◌, sym, ref
 use Rattle.days.specs.Days.{Rules, State, Entry, turn, record_of, end_of}
 use Rattle.days.specs.Sealed.{calls}
 use Rattle.days.specs.declared.call.Call.{Call}
-use Rattle.days.specs.declared.call.Call.TheVariants.{Send, Freeze, Match, Lift}
 use Rattle.days.proofs.Turning.{call_same}
 
 -- a list of entries that is the record of a day from s

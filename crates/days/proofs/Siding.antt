@@ -1,5 +1,5 @@
 -- The laws of two days that went by the rules.
-use Rattle.std.proofs.Common.{◌≡◌, ℕ, ◌+◌, ◌<◌, ◌≤◌, true, List, [], ◌∷◌, ◌++◌, length, get_or, take, drop, sym, refl, ap, ◌∙◌, subst}
+use Rattle.std.proofs.Common.{◌≡◌, ℕ, ◌+◌, ◌<◌, true, List, [], ◌∷◌, ◌++◌, length, get_or, take, drop, sym, refl, ap, ◌∙◌, subst}
 use Rattle.std.proofs.lemmas.List.{append_assoc, append-nil, take_more, drop_at}
 use Rattle.orders.specs.Ticks.{Grid}
 use Rattle.orders.specs.declared.instruction.Instruction.{Instruction}
@@ -17,7 +17,7 @@ use Rattle.days.specs.Conserved.{ConservedDay}
 use Rattle.days.specs.Days.{Rules, State, in_pre_call, book_of, Entry, turn, record_of, end_of}
 use Rattle.days.specs.Delayed.{outside, retold, DelayedTwin}
 use Rattle.days.specs.Phases.{rules_of}
-use Rattle.days.specs.Sealed.{calls, SealedFreeze}
+use Rattle.days.specs.Sealed.{calls}
 use Rattle.days.specs.Steps.{StockKept, Turned}
 use Rattle.days.specs.Twins.{HeldDay, day_held, ByTheRules, SameStart, SideBySide}
 use Rattle.days.specs.declared.call.Call.{Call}

@@ -1,5 +1,5 @@
 -- An instruction in a freeze, by what the locked stock answers.
-use Rattle.std.proofs.Common.{◌≡◌, ℕ, min, Bool, true, false, cond, eqb, List, [], ◌∷◌, ◌++◌, map, length, set, Ok, Err, Result, sym, refl, ap, ◌∙◌, subst, length-set}
+use Rattle.std.proofs.Common.{◌≡◌, ℕ, min, Bool, true, false, cond, eqb, List, [], ◌∷◌, ◌++◌, length, set, Ok, Err, Result, sym, refl, ap, ◌∙◌, subst, length-set}
 use Rattle.std.proofs.lemmas.List.{length-map}
 use Rattle.orders.specs.Checks.{checked}
 use Rattle.orders.specs.Ticks.{Grid}
@@ -16,7 +16,7 @@ use Rattle.locked_stock.specs.Holding.{held_in, slots_of, Joined, HeldBy}
 use Rattle.engine.specs.Freezes.{admitted_to}
 use Rattle.instructions.specs.declared.effect.Effect.{Effect}
 use Rattle.days.specs.Counts.{stops_in, fills_in, receipts_in}
-use Rattle.days.specs.Days.{Turn, in_freeze, plain, answer_of, waits}
+use Rattle.days.specs.Days.{in_freeze, plain, answer_of, waits}
 use Rattle.days.specs.Steps.{Bare, told_waiting, waited, held_with, Waits}
 use Rattle.days.specs.declared.answer.Answer.{Answer}
 use Rattle.days.specs.declared.call.Call.TheVariants.{Send}

@@ -7,7 +7,6 @@ use Rattle.orders.specs.declared.refusal.Refusal.{Refusal}
 use Rattle.orders.specs.declared.refusal.Refusal.TheVariants.{WrongPhase}
 use Rattle.orders.specs.declared.terms.Terms.{Terms}
 use Rattle.orders.specs.declared.ticket.Ticket.{Ticket}
-use Rattle.pricing.specs.declared.quote.Quote.{Quote}
 use Rattle.settling.specs.declared.fill.Fill.{Fill}
 use Rattle.auction.specs.Auctions.{Auction, auction_under}
 use Rattle.instructions.specs.declared.effect.Effect.{Effect}

@@ -1,7 +1,7 @@
 -- A checked instruction is about the number that was named.
-use Rattle.std.proofs.Common.{◌≡◌, ℕ, Bool, true, false, cond, Some, None, Ok, Err, Option, Result, sym, refl, ap, ◌∙◌, arith}
+use Rattle.std.proofs.Common.{◌≡◌, ℕ, Bool, true, false, cond, Some, None, Ok, Err, Option, Result, refl, ap, ◌∙◌, arith}
 use Rattle.std.specs.Option.{ok_or}
-use Rattle.orders.specs.Checks.{checked, checked_ticket, terms_under, identified, on_lot, kind_named}
+use Rattle.orders.specs.Checks.{checked, checked_ticket, terms_under, identified, on_lot}
 use Rattle.orders.specs.Results.{seen}
 use Rattle.orders.specs.Ticks.{Grid}
 use Rattle.orders.specs.declared.instruction.Instruction.{Instruction}

@@ -16,7 +16,7 @@ use Rattle.auction.specs.Laws.{LawfulAuction}
 use Rattle.waiting_line.specs.Lines.{room_of}
 use Rattle.waiting_line.specs.declared.line.WaitingLine.{WaitingLine}
 use Rattle.locked_stock.specs.Holding.{held_in}
-use Rattle.locked_stock.specs.Receipts.{ReceiptsBalance, receipts_of, book_after, entries_after}
+use Rattle.locked_stock.specs.Receipts.{book_after, entries_after}
 use Rattle.locked_stock.specs.declared.receipt.Receipt.{Receipt}
 use Rattle.engine.specs.Freezes.{match_fault, matched_as}
 use Rattle.engine.specs.PreCalls.{grid_under}

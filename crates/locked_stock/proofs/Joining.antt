@@ -1,5 +1,5 @@
 -- A checked instruction joins the line as its terms tell.
-use Rattle.std.proofs.Common.{◌≡◌, ℕ, Bool, true, false, cond, List, [], ◌∷◌, ◌++◌, map, length, set, Result, sym, refl, ap, ◌∙◌}
+use Rattle.std.proofs.Common.{◌≡◌, ℕ, Bool, true, false, cond, List, [], ◌∷◌, ◌++◌, map, length, set, Result, refl, ap, ◌∙◌}
 use Rattle.std.proofs.lemmas.List.{map_push, map-set}
 use Rattle.orders.specs.Told.{told}
 use Rattle.orders.specs.declared.instruction.Instruction.{Instruction}
@@ -8,7 +8,7 @@ use Rattle.orders.specs.declared.refusal.Refusal.{Refusal}
 use Rattle.orders.specs.declared.refusal.Refusal.TheVariants.{LockedStockFull}
 use Rattle.waiting_line.specs.Lines.{waiting, slot_at, is_full, Put}
 use Rattle.waiting_line.specs.declared.line.WaitingLine.{WaitingLine}
-use Rattle.locked_stock.specs.Holding.{held_in, slots_of, Joined}
+use Rattle.locked_stock.specs.Holding.{Joined}
 
 pushed : (b : Bool) (ws : List (Instruction Order)) (x : Instruction Order) → map told (cond b ws (ws ++ x ∷ [])) ≡ cond b (map told ws) (map told ws ++ told x ∷ [])
 pushed true ws x = refl

@@ -1,5 +1,5 @@
 -- Held instructions carried out in the sequence of entry, each with a receipt.
-use Rattle.std.specs.Prelude.{◌≡◌, ℕ, ◌+◌, Bool, cond, List, [], ◌∷◌, ◌++◌, length, drop, Some, None, sum_by, Option, Result, ◌==◌, nat_lt}
+use Rattle.std.specs.Prelude.{◌≡◌, ℕ, ◌+◌, cond, List, [], ◌∷◌, ◌++◌, length, drop, Some, None, sum_by, Option, Result, ◌==◌, nat_lt}
 use Rattle.orders.specs.Answers.{answered, left}
 use Rattle.orders.specs.declared.instruction.Instruction.{Instruction}
 use Rattle.orders.specs.declared.order.Order.{Order}

@@ -4,11 +4,11 @@ use Rattle.std.specs.Char.{is_ascii_digit}
 use Rattle.day_lines.proofs.field.digits_in_front.Goals as goal
 
 pub loop-n-preserved : goal.loop-n-preserved
-loop-n-preserved c = (omega arith, omega (arith, prefix_len-drop_yes is_ascii_digit _ _ 0 c.loop-n-test.true (sym c.if-is-ascii-digit.ensures.value)))
+loop-n-preserved c = (omega arith, omega (arith, prefix_len-drop_yes is_ascii_digit _ _ 0 c.loop-n-test.true (sym c.if-is_ascii_digit.ensures.value)))
 
-pub returns-else-is-ascii-digit : goal.returns-else-is-ascii-digit
-returns-else-is-ascii-digit c =
-    record { within = omega arith; count = omega (arith, prefix_len-drop_no is_ascii_digit _ _ 0 c.loop-n-test.true (sym c.if-is-ascii-digit.ensures.value)) }
+pub returns-else-is_ascii_digit : goal.returns-else-is_ascii_digit
+returns-else-is_ascii_digit c =
+    record { within = omega arith; count = omega (arith, prefix_len-drop_no is_ascii_digit _ _ 0 c.loop-n-test.true (sym c.if-is_ascii_digit.ensures.value)) }
 
 pub returns-after-loop-n : goal.returns-after-loop-n
 returns-after-loop-n c =

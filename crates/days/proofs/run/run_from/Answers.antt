@@ -1,12 +1,12 @@
-use Rattle.std.proofs.Common.{◌≡◌, ◌+◌, sym, refl, ap, ◌∙◌, arith}
+use Rattle.std.proofs.Common.{◌+◌, sym, refl, ap, ◌∙◌, arith}
 use Rattle.days.proofs.Siding.{begun, one_more, ran, kept_on}
 use Rattle.days.proofs.run.run_from.Goals as goal
 
 pub loop-call-init : goal.loop-call-init
 loop-call-init g c = (begun _ _ _ _, refl, refl, record { room = refl; lent = refl }, refl)
 
-pub overflow-add-carried : goal.overflow-add-carried
-overflow-add-carried g c = omega (arith, c.loop-call.invariant.1, c.loop-call.auto.call-index-end)
+pub overflow_add-carried : goal.overflow_add-carried
+overflow_add-carried g c = omega (arith, c.loop-call.invariant.1, c.loop-call.auto.call-index-end)
 
 pub loop-call-preserved : goal.loop-call-preserved
 loop-call-preserved g c =
@@ -19,12 +19,12 @@ loop-call-preserved g c =
       e.same ∙ inv.4,
     )
 
-pub returns-then-not-has-room : goal.returns-then-not-has-room
-returns-then-not-has-room g c =
+pub returns-then-not-has_room : goal.returns-then-not-has_room
+returns-then-not-has_room g c =
     let inv = c.loop-call.invariant in
     let done = ran inv.1 inv.0 in
     record {
-      run = record { told = done.0; ended = done.1; carried = λ h. sym c.if-not-has-room.ensures; within = omega (arith, inv.1, c.loop-call-test.true); kept = inv.3; same = inv.4 };
+      run = record { told = done.0; ended = done.1; carried = λ h. sym c.if-not-has_room.ensures; within = omega (arith, inv.1, c.loop-call-test.true); kept = inv.3; same = inv.4 };
       grid = inv.2;
     }
 

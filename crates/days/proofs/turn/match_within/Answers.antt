@@ -5,8 +5,8 @@ use Rattle.engine.specs.Matches.{grid_frozen}
 use Rattle.days.proofs.Meeting.{capped_fault}
 use Rattle.days.proofs.turn.match_within.Goals as goal
 
-pub match-and-note-requires : goal.match-and-note-requires
-match-and-note-requires g c =
+pub match_and_note-requires : goal.match_and_note-requires
+match_and_note-requires g c =
     let m = c.args.call in
     let ts = g.S.Book.orders c.args.store.now in
     let stock = room_of c.args.stock.now.slots.now in

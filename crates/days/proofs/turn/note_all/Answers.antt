@@ -1,5 +1,5 @@
 use Rattle.std.proofs.Common.{[], ◌∷◌, ◌++◌, ap, ◌∙◌}
-use Rattle.days.specs.Journals.{entry_with, told_by}
+use Rattle.days.specs.Journals.{told_by}
 use Rattle.days.proofs.Entering.{as_much}
 use Rattle.days.proofs.turn.note_all.Goals as goal
 

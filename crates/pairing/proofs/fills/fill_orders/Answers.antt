@@ -10,9 +10,9 @@ returns-then-fills-count g c =
     let ts = g.B.Book.orders c.args.book.now in
     record {
       filled = refused c.args.quote.quote ts c.args.price c.args.fills.now c.count.ensures.sound (omega (arith, c.if-fills-count.true, c.count.ensures.value));
-      adds-up = add_up c.args.quote.quote ts c.args.price c.args.quote.apart c.count.ensures.sound;
-      buys-by-priority = by_priority c.args.quote.quote ts c.args.price c.count.ensures.sound Buy;
-      sells-by-priority = by_priority c.args.quote.quote ts c.args.price c.count.ensures.sound Sell;
+      adds_up = add_up c.args.quote.quote ts c.args.price c.args.quote.apart c.count.ensures.sound;
+      buys_by_priority = by_priority c.args.quote.quote ts c.args.price c.count.ensures.sound Buy;
+      sells_by_priority = by_priority c.args.quote.quote ts c.args.price c.count.ensures.sound Sell;
     }
 
 pub pair-requires : goal.pair-requires
@@ -20,9 +20,9 @@ pair-requires g c =
     let q = c.args.quote in
     let ts = g.B.Book.orders c.args.book.now in
     record {
-      buyers = subst Pairable (sym c.as-slice.ensures.value) c.interests-buys.ensures.pairable;
-      sellers = subst Pairable (sym c.as-slice-2.ensures.value) c.interests-sells.ensures.pairable;
-      room = fills_fit q.quote ts c.args.price _ _ (c.as-slice.ensures.value ∙ c.interests-buys.ensures.value) (c.as-slice-2.ensures.value ∙ c.interests-sells.ensures.value) q.apart _ (omega (arith, c.if-fills-count.false, c.count.ensures.value));
+      buyers = subst Pairable (sym c.as_slice.ensures.value) c.interests-buys.ensures.pairable;
+      sellers = subst Pairable (sym c.as_slice-2.ensures.value) c.interests-sells.ensures.pairable;
+      room = fills_fit q.quote ts c.args.price _ _ (c.as_slice.ensures.value ∙ c.interests-buys.ensures.value) (c.as_slice-2.ensures.value ∙ c.interests-sells.ensures.value) q.apart _ (omega (arith, c.if-fills-count.false, c.count.ensures.value));
     }
 
 pub returns : goal.returns
@@ -30,8 +30,8 @@ returns g c =
     let q = c.args.quote in
     let ts = g.B.Book.orders c.args.book.now in
     record {
-      filled = filled q.quote ts c.args.price _ _ (c.as-slice.ensures.value ∙ c.interests-buys.ensures.value) (c.as-slice-2.ensures.value ∙ c.interests-sells.ensures.value) c.args.fills.now _ _ c.count.ensures.sound (omega (arith, c.if-fills-count.false, c.count.ensures.value)) c.pair.ensures;
-      adds-up = add_up q.quote ts c.args.price q.apart c.count.ensures.sound;
-      buys-by-priority = by_priority c.args.quote.quote ts c.args.price c.count.ensures.sound Buy;
-      sells-by-priority = by_priority c.args.quote.quote ts c.args.price c.count.ensures.sound Sell;
+      filled = filled q.quote ts c.args.price _ _ (c.as_slice.ensures.value ∙ c.interests-buys.ensures.value) (c.as_slice-2.ensures.value ∙ c.interests-sells.ensures.value) c.args.fills.now _ _ c.count.ensures.sound (omega (arith, c.if-fills-count.false, c.count.ensures.value)) c.pair.ensures;
+      adds_up = add_up q.quote ts c.args.price q.apart c.count.ensures.sound;
+      buys_by_priority = by_priority c.args.quote.quote ts c.args.price c.count.ensures.sound Buy;
+      sells_by_priority = by_priority c.args.quote.quote ts c.args.price c.count.ensures.sound Sell;
     }

@@ -15,8 +15,8 @@ pub loop-open-init : goal.loop-open-init
 loop-open-init c =
     first_buyer c.args.price c.args.buys.now c.auction.buy-index nobody _ c.auction.count c.auction.fills c.auction.left c.auction-test.true c.auction.invariant.0 c.auction.invariant.1
 
-pub overflow-sub-sell : goal.overflow-sub-sell
-overflow-sub-sell c = omega (arith, not_taken c.args.sells.now c.loop-open.next c.loop-open.taken nobody c.if-next-sells.true c.loop-open.open _ c.loop-open.left c.loop-open.invariant.1)
+pub overflow_sub-sell : goal.overflow_sub-sell
+overflow_sub-sell c = omega (arith, not_taken c.args.sells.now c.loop-open.next c.loop-open.taken nobody c.if-next-sells.true c.loop-open.open _ c.loop-open.left c.loop-open.invariant.1)
 
 -- the turn, once its quantity is known
 the_turn : (c : After-min-quantity) → let b = get_or c.args.buys.now c.auction.buy-index nobody in let rest = drop (c.auction.buy-index + 1) c.args.buys.now in Turned c.auction.count c.auction.fills (paired c.args.price (b ∷ rest) (lessened c.auction.taken (drop c.auction.next c.args.sells.now))) c.args.price b.number c.loop-open.open rest (sell c.args.sells.now c.loop-open.next c.loop-open.taken nobody c.if-next-sells.true) (drop (c.loop-open.next + 1) c.args.sells.now) c.loop-open.count c.loop-open.fills c.loop-open.left c.min-quantity.result
@@ -26,17 +26,17 @@ the_turn c =
 pub bounds-fills-count : goal.bounds-fills-count
 bounds-fills-count c = (the_turn c).within
 
-pub overflow-sub-left : goal.overflow-sub-left
-overflow-sub-left c = (the_turn c).most
+pub overflow_sub-left : goal.overflow_sub-left
+overflow_sub-left c = (the_turn c).most
 
 open_sell : (c : After-min-quantity) → c.loop-open.taken < (get_or c.args.sells.now c.loop-open.next nobody).quantity
 open_sell c = not_taken c.args.sells.now c.loop-open.next c.loop-open.taken nobody c.if-next-sells.true c.loop-open.open _ c.loop-open.left c.loop-open.invariant.1
 
-pub overflow-add-taken : goal.overflow-add-taken
-overflow-add-taken c =
+pub overflow_add-taken : goal.overflow_add-taken
+overflow_add-taken c =
     omega (
       arith,
-      open_sell (goal.at.overflow-add-taken c).After-min-quantity,
+      open_sell (goal.at.overflow_add-taken c).After-min-quantity,
       c.min-quantity.ensures,
       get_or-le-sum_by wanted c.args.sells.now c.loop-open.next nobody c.if-next-sells.true,
       c.requires.sellers.sum,

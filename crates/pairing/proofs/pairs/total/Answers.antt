@@ -4,8 +4,8 @@ use Rattle.std.proofs.lemmas.List.Sums.{sum_by_more, sum_by-take-le}
 use Rattle.pairing.specs.Steps.{wanted}
 use Rattle.pairing.proofs.pairs.total.Goals as goal
 
-pub overflow-add-shares : goal.overflow-add-shares
-overflow-add-shares c =
+pub overflow_add-shares : goal.overflow_add-shares
+overflow_add-shares c =
     omega (
       arith,
       sum_by_more wanted c.args.interests.now c.loop-interest.interest-index (record { number = 0; quantity = 0 }) c.loop-interest-test.true,

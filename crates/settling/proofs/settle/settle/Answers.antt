@@ -11,8 +11,8 @@ loop-fill-init g c = (settled_none (g.S.Book.orders c.args.store.now) (g.met.S.S
 
 pub loop-fill-preserved : goal.loop-fill-preserved
 loop-fill-preserved g c = (
-  settled_more c.args.fills.now c.loop-fill.fill-index _ c.loop-fill-test.true _ _ _ c.loop-fill.invariant.0 c.settle-fill.ensures.after,
-  c.settle-fill.ensures.same ∙ c.loop-fill.invariant.1,
+  settled_more c.args.fills.now c.loop-fill.fill-index _ c.loop-fill-test.true _ _ _ c.loop-fill.invariant.0 c.settle_fill.ensures.after,
+  c.settle_fill.ensures.same ∙ c.loop-fill.invariant.1,
 )
 
 pub returns : goal.returns

@@ -9,8 +9,8 @@ returns-then-fill g c =
     let fill = c.args.fill in
     record {
       after =
-          c.take-off-then-fill.ensures.after
-          ∙ ap (after_fills (lone_fill fill.seller fill.quantity ∷ [])) c.take-off.ensures.after
+          c.take_off-then-fill.ensures.after
+          ∙ ap (after_fills (lone_fill fill.seller fill.quantity ∷ [])) c.take_off.ensures.after
           ∙ both_sides fill (g.S.Book.orders c.args.store.now) c.if-fill.true;
-      same = c.take-off-then-fill.ensures.same ∙ c.take-off.ensures.same;
+      same = c.take_off-then-fill.ensures.same ∙ c.take_off.ensures.same;
     }

@@ -9,10 +9,10 @@ loop-number-preserved g c =
     let q = c.args.quote in
     let ns = c.args.numbers.now in
     let ts = g.S.Book.orders c.args.store.now in (
-      c.move-stop.ensures.after
+      c.move_stop.ensures.after
           ∙ ap (λ l. stop_moved q l (get_or ns c.loop-number.number-index 0)) c.loop-number.invariant.0
           ∙ sym (fold_more (stop_moved q) ts ns c.loop-number.number-index 0 c.loop-number-test.true),
-      c.move-stop.ensures.same ∙ c.loop-number.invariant.1,
+      c.move_stop.ensures.same ∙ c.loop-number.invariant.1,
     )
 
 pub returns : goal.returns

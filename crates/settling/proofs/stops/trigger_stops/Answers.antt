@@ -12,13 +12,13 @@ returns g c =
     let ts = g.S.Book.orders s in
     let apart = (g.met.S.Store.sound s).apart in
     let after =
-    c.move-stops.ensures.after
-    ∙ ap (λ ns. fold (stop_moved q) ts ns) c.note-stops-count.ensures.value
+    c.move_stops.ensures.after
+    ∙ ap (λ ns. fold (stop_moved q) ts ns) c.note_stops-count.ensures.value
     ∙ all_moved q ts apart in
     record {
-      value = c.note-stops-count.ensures.len;
+      value = c.note_stops-count.ensures.len;
       after = after;
-      same = c.move-stops.ensures.same;
-      sound = g.met.S.Store.sound c.move-stops.new.store;
+      same = c.move_stops.ensures.same;
+      sound = g.met.S.Store.sound c.move_stops.new.store;
       conserves = subst (OpenAsBefore ts) (sym after) (stops_conserve q ts apart);
     }

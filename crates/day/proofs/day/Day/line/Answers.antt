@@ -20,7 +20,7 @@ returns-in-Opening g c =
 pub returns-in-PreCall : goal.returns-in-PreCall
 returns-in-PreCall g c =
     let s = c.args.self.now.store in
-    let done = c.carry-out.ensures in
+    let done = c.carry_out.ensures in
     let is = ap state_of c.in-PreCall.is in
     stepped (g.S.Store.room s) _ (pre_call (grid_under c.in-PreCall.pre_call)) (g.S.Book.orders s) c.args.line.now _ _ _ _
     is

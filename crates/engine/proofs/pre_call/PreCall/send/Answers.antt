@@ -9,11 +9,11 @@ pub returns : goal.returns
 returns g c =
     let room = g.S.Store.room c.args.store.now in
     let before = g.S.Book.orders c.args.store.now in
-    let done = c.carry-out.ensures in
-    let checked = c.in-ok-check.ensures in
+    let done = c.carry_out.ensures in
+    let checked = c.in_ok-check.ensures in
     record {
       value = done.value ∙ ap (λ r. answer_once r room before) checked;
       book = done.after ∙ ap (λ r. book_once r room before) checked;
       same = done.same;
-      conserves = subst (λ n. Conserved n c.carry-out.result before (g.S.Book.orders c.carry-out.new.store)) (same_number (grid_of c.args.self.now.settings) c.args.instruction _ checked) done.conserves;
+      conserves = subst (λ n. Conserved n c.carry_out.result before (g.S.Book.orders c.carry_out.new.store)) (same_number (grid_of c.args.self.now.settings) c.args.instruction _ checked) done.conserves;
     }
