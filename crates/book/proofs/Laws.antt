@@ -7,7 +7,7 @@ use Rattle.orders.specs.Ranges.{in_range}
 use Rattle.std.proofs.ByRecursion.{All-weaker, sum_by_le}
 use Rattle.std.proofs.lemmas.List.Sums.{sum_by-cons}
 use Rattle.std.proofs.lemmas.Bool.Decides.{nat_tests}
-use Rattle.std.specs.List.{AllByRecursion as All}
+use Rattle.std.specs.List.{AllByRecursion}
 use Rattle.book.proofs.Reading.{Stands}
 use Rattle.book.specs.Calls.{append_fault}
 use Rattle.book.specs.Figures.{quantity_of, open_shares, open_in, open_of}
@@ -127,7 +127,7 @@ pub found_gone : (n : ℕ) (ts : List Terms) → distinct ts ≡ true → found 
 found_gone n ts d = found_none n (without n ts) (held_gone n ts d)
 
 -- a number that is not held is no order's
-pub not_held_each : (n : ℕ) (ts : List Terms) → held n ts ≡ false → All (λ t. eqb t.number n ≡ false) ts
+pub not_held_each : (n : ℕ) (ts : List Terms) → held n ts ≡ false → AllByRecursion (λ t. eqb t.number n ≡ false) ts
 not_held_each n [] h = tt
 not_held_each n (x ∷ ts) h = let p = or_parts (eqb x.number n) (held n ts) h in (p.0, not_held_each n ts p.1)
 

@@ -1,6 +1,6 @@
 -- A book is told by the list of its orders' terms, earliest first.
 use Rattle.std.specs.Prelude.{◌≡◌, ℕ, ◌≤◌, Bool, true, false, cond, not, ◌&&◌, ◌||◌, List, [], ◌∷◌, length, Some, None, Option, ◌==◌}
-use Rattle.std.specs.List.{AllByRecursion as All}
+use Rattle.std.specs.List.{AllByRecursion}
 use Rattle.orders.specs.Ranges.{in_range, with_quantity}
 use Rattle.orders.specs.declared.terms.Terms.{Terms}
 
@@ -33,4 +33,4 @@ distinct (t ∷ ts) = not (held t.number ts) && distinct ts
 pub record Sound (ts : List Terms) : Type 0 where
   pub few : length ts ≤ 256
   pub apart : distinct ts ≡ true
-  pub ranged : All (λ t. in_range t ≡ true) ts
+  pub ranged : AllByRecursion (λ t. in_range t ≡ true) ts

@@ -2,7 +2,7 @@
 use Rattle.std.specs.Prelude.{◌≡◌, ℕ, ◌<◌, ◌≤◌, true, false, not, List, [], ◌∷◌, ◌++◌, ◌==◌, ◌≢◌, nat_lt, refl}
 use Rattle.std.proofs.Common.{⊎_elim, subst, arith}
 use Rattle.std.proofs.lemmas.Bool.{cases_Bool, and_parts, and_from, or_parts, or_from, or_cases, not-true, not_from_false, eqb-true, eqb-false, ltb-true, lt-ltb, both_ways}
-use Rattle.std.specs.List.{AllByRecursion as All}
+use Rattle.std.specs.List.{AllByRecursion}
 use Rattle.book.proofs.Laws.{eqb_flip}
 use Rattle.chain_table.specs.Chains.{among, no_row_twice, all_below}
 
@@ -59,17 +59,17 @@ once_sides p (x ∷ xs) ys h k =
     (λ e. once_sides p xs ys q.1 e) (or_cases (x == p) (among p xs) k)
 
 -- what holds of each
-pub all_parts : {X : Type 0} (P : X → Type 0) (xs ys : List X) → All P (xs ++ ys) → All P xs × All P ys
+pub all_parts : {X : Type 0} (P : X → Type 0) (xs ys : List X) → AllByRecursion P (xs ++ ys) → AllByRecursion P xs × AllByRecursion P ys
 all_parts P [] ys h = (tt, h)
 all_parts P (x ∷ xs) ys h = let r = all_parts P xs ys h.1 in ((h.0, r.0), r.1)
 
-pub all_among : (P : ℕ → Type 0) (p : ℕ) (xs : List ℕ) → All P xs → among p xs ≡ true → P p
+pub all_among : (P : ℕ → Type 0) (p : ℕ) (xs : List ℕ) → AllByRecursion P xs → among p xs ≡ true → P p
 all_among P p [] h k = absurd (both_ways false refl k)
 all_among P p (x ∷ xs) h k = ⊎_elim (λ e. subst P (eqb-true x p e) h.0) (λ e. all_among P p xs h.1 e) (or_cases (x == p) (among p xs) k)
 
 -- all below a bound
 abbrev pub Below : ℕ → List ℕ → Type 0
-Below n xs = All (λ x. x < n) xs
+Below n xs = AllByRecursion (λ x. x < n) xs
 
 pub from_below : (n : ℕ) (xs : List ℕ) → all_below n xs ≡ true → Below n xs
 from_below n [] h = tt

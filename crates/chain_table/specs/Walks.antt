@@ -3,7 +3,7 @@ use Rattle.std.specs.Prelude.{◌≡◌, ℕ, zero, suc, ◌<◌, true, false, �
 use Rattle.std.proofs.Common.{sym, ap, subst, ◌∙◌, arith}
 use Rattle.std.proofs.lemmas.List.{append-nil}
 use Rattle.std.proofs.lemmas.Bool.{and_parts, and_from, or_left, or_right, eq-eqb, eqb-true, both_ways}
-use Rattle.std.specs.List.{AllByRecursion as All}
+use Rattle.std.specs.List.{AllByRecursion}
 use Rattle.book.proofs.General.{all_of}
 use Rattle.chain_table.specs.Chains.{walk, linked_through, among, no_row_twice}
 use Rattle.chain_table.specs.Steps.{Led}
@@ -63,7 +63,7 @@ linked_append f g a (x ∷ xs) i ys b h k = (h.0, h.1, linked_append f g x xs i 
 
 -- functions that are alike on a list
 abbrev pub Alike : {Y : Type 0} → (ℕ → Y) → (ℕ → Y) → List ℕ → Type 0
-Alike f f' xs = All (λ j. f' j ≡ f j) xs
+Alike f f' xs = AllByRecursion (λ j. f' j ≡ f j) xs
 
 pub alike_all : {Y : Type 0} (f f' : ℕ → Y) → ((j : ℕ) → f' j ≡ f j) → (xs : List ℕ) → Alike f f' xs
 alike_all f f' k = all_of (λ j. f' j ≡ f j) k

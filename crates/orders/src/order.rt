@@ -1,5 +1,5 @@
 // An order: terms that are in range.
-ghost use Rattle.std.specs.Prelude.{◌≡◌, true, ◌&&◌, leb, if◌then◌else◌, Some, None, nat_le};
+ghost use Rattle.std.specs.Prelude.{◌≡◌, true, ◌&&◌, if◌then◌else◌, Some, None, nat_le};
 ghost use Rattle.orders.specs.Ranges.{in_range, with_quantity};
 ghost use Rattle.std.specs.Option.{option_map};
 
@@ -32,7 +32,7 @@ impl Order {
 
     // The order with an open quantity from 1 to its present one.
     pub fn lowered(self, quantity: u32) -> Option<Order>
-        ensures { option_map (λ o. o.terms) result ≡ (if leb 1 quantity && nat_le quantity self.terms.quantity then Some (with_quantity self.terms quantity) else None) }
+        ensures { option_map (λ o. o.terms) result ≡ (if nat_le 1 quantity && nat_le quantity self.terms.quantity then Some (with_quantity self.terms quantity) else None) }
     {
         if quantity == 0 {
             return None;

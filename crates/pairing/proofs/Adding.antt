@@ -5,7 +5,7 @@ use Rattle.std.proofs.lemmas.List.{length-append, length-map}
 use Rattle.std.proofs.lemmas.List.Sums.{sum_by-cons}
 use Rattle.std.proofs.lemmas.Bool.{cases_eq, ne_eqb, eqb-false, lt-ltb, le-ltb, cond-true, cond-false}
 use Rattle.std.proofs.lemmas.Bool.Decides.{nat_tests}
-use Rattle.std.specs.List.{AllByRecursion as All}
+use Rattle.std.specs.List.{AllByRecursion}
 use Rattle.orders.specs.Answers.{answered, left}
 use Rattle.orders.specs.Ranges.{in_range}
 use Rattle.orders.specs.declared.refusal.Refusal.TheVariants.{FillEntries}
@@ -133,19 +133,19 @@ module _ (q : Quote) (ts : List Terms) (p : ℕ) where
 some_share : (t : Terms) → in_range t ≡ true → 1 ≤ t.quantity
 some_share t h = grind (arith, nat_tests)
 
-placed_all : (P : Terms → Type 0) (i : ℕ) (ts : List Terms) → All P ts → All (λ a. P a.terms) (placed_from i ts)
+placed_all : (P : Terms → Type 0) (i : ℕ) (ts : List Terms) → AllByRecursion P ts → AllByRecursion (λ a. P a.terms) (placed_from i ts)
 placed_all P i [] h = tt
 placed_all P i (t ∷ ts) h = (h.0, placed_all P (suc i) ts h.1)
 
 -- what holds of all orders of a book holds of all in a queue
-pub queue_all : (P : Terms → Type 0) (before : Placed → Placed → Bool) (side : Side) (p : ℕ) (ts : List Terms) → All P ts → All (λ a. P a.terms) (queue_by before side p ts)
+pub queue_all : (P : Terms → Type 0) (before : Placed → Placed → Bool) (side : Side) (p : ℕ) (ts : List Terms) → AllByRecursion P ts → AllByRecursion (λ a. P a.terms) (queue_by before side p ts)
 queue_all P before side p ts h =
     all_shuffled (λ a. P a.terms) (trading_at side p ts) (queue_by before side p ts) (queued_shuffled before (trading_at side p ts)) (all_kept_by (λ a. takes_at side p a.terms) (λ a. P a.terms) (placed_from 0 ts) (placed_all P 0 ts h))
 
-quote_all : (v : ℕ) → All (λ i. 1 ≤ i.quantity) (quote_interest v)
+quote_all : (v : ℕ) → AllByRecursion (λ i. 1 ≤ i.quantity) (quote_interest v)
 quote_all v = go (eqb v 0) (eqb-false v 0)
   where
-    go : (none : Bool) → (none ≡ false → v ≡ 0 → ⊥) → All {X = Interest} (λ i. 1 ≤ i.quantity) (cond none [] (record { number = 0; quantity = v } ∷ []))
+    go : (none : Bool) → (none ≡ false → v ≡ 0 → ⊥) → AllByRecursion {X = Interest} (λ i. 1 ≤ i.quantity) (cond none [] (record { number = 0; quantity = v } ∷ []))
     go true h = tt
     go false h = (⊎_elim (λ e. absurd (h refl e)) (λ e. omega arith) (cases_eq v 0), tt)
 
@@ -153,7 +153,7 @@ side_le : (f : Terms → ℕ) (side : Side) (p : ℕ) (ts : List Terms) → sum_
 side_le f Buy p ts = omega (arith, both_sides f p ts)
 side_le f Sell p ts = omega (arith, both_sides f p ts)
 
-pub side_some : (before : Placed → Placed → Bool) (ts : List Terms) (side : Side) (p v : ℕ) → Sound ts → All (λ i. 1 ≤ i.quantity) (map interest_of (queue_by before side p ts) ++ quote_interest v)
+pub side_some : (before : Placed → Placed → Bool) (ts : List Terms) (side : Side) (p v : ℕ) → Sound ts → AllByRecursion (λ i. 1 ≤ i.quantity) (map interest_of (queue_by before side p ts) ++ quote_interest v)
 side_some before ts side p v s =
     let some = All-weaker (λ t. in_range t ≡ true) (λ t. 1 ≤ t.quantity) some_share ts s.ranged in
     All-append (λ i. 1 ≤ i.quantity) (map interest_of (queue_by before side p ts)) (quote_interest v) (All-map (λ i. 1 ≤ i.quantity) interest_of (queue_by before side p ts) (queue_all (λ t. 1 ≤ t.quantity) before side p ts some)) (quote_all v)

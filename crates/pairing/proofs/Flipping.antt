@@ -1,7 +1,7 @@
 -- Buyers and sellers may change places: the pairs stay the same.
 use Rattle.std.proofs.Common.{◌≡◌, ℕ, zero, suc, ◌+◌, ◌-◌, ◌<◌, ◌≤◌, Bool, eqb, ◌⊎◌, List, [], ◌∷◌, ◌++◌, map, length, sum_by, sym, refl, ap, ◌∙◌, inl, inr, ⊎_elim, arith}
 use Rattle.std.proofs.lemmas.Bool.{cases_order, eq-eqb, ne_eqb, cond-true, cond-false}
-use Rattle.std.specs.List.{AllByRecursion as All}
+use Rattle.std.specs.List.{AllByRecursion}
 use Rattle.settling.specs.declared.fill.Fill.{Fill}
 use Rattle.pairing.proofs.Serving.{bought_by, sold_by, bought_in_turn}
 use Rattle.pairing.proofs.Turning.{interest, lessened, turn, sated, no_sells}
@@ -37,7 +37,7 @@ module _ (p : ℕ) (b : Interest) (bs : List Interest) (s : Interest) (ss : List
       ∙ ap (λ r. a_fill p b.number s.number s.quantity ∷ paired p (interest b.number r ∷ bs) ss) nothing
       ∙ ap (λ l. a_fill p b.number s.number s.quantity ∷ l) (sated p b.number bs ss)
 
-flips : (n p : ℕ) (bs ss : List Interest) → length bs + length ss ≤ n → All (λ i. 1 ≤ i.quantity) bs → All (λ i. 1 ≤ i.quantity) ss → paired p ss bs ≡ map flipped (paired p bs ss)
+flips : (n p : ℕ) (bs ss : List Interest) → length bs + length ss ≤ n → AllByRecursion (λ i. 1 ≤ i.quantity) bs → AllByRecursion (λ i. 1 ≤ i.quantity) ss → paired p ss bs ≡ map flipped (paired p bs ss)
 flips n p [] ss h x y = no_sells p ss
 flips n p (b ∷ bs) [] h x y = sym (ap (map flipped) (no_sells p (b ∷ bs)))
 flips zero p (b ∷ bs) (s ∷ ss) h x y = absurd (omega arith)
@@ -57,11 +57,11 @@ flips (suc n) p (b ∷ bs) (s ∷ ss) h x y =
     (cases_order b.quantity s.quantity)
 
 -- what is sold is what is bought, were the two sides to change places
-sold_flipped : (t : ℕ → Bool) (p : ℕ) (bs ss : List Interest) → All (λ i. 1 ≤ i.quantity) bs → All (λ i. 1 ≤ i.quantity) ss → sum_by (bought_by t) (paired p ss bs) ≡ sum_by (sold_by t) (paired p bs ss)
+sold_flipped : (t : ℕ → Bool) (p : ℕ) (bs ss : List Interest) → AllByRecursion (λ i. 1 ≤ i.quantity) bs → AllByRecursion (λ i. 1 ≤ i.quantity) ss → sum_by (bought_by t) (paired p ss bs) ≡ sum_by (sold_by t) (paired p bs ss)
 sold_flipped t p bs ss x y =
     ap (sum_by (bought_by t)) (flips (length bs + length ss) p bs ss (omega arith) x y) ∙ sum_by_map (bought_by t) flipped (paired p bs ss)
 
-pub sold_in_turn : (p : ℕ) (bs xs ys : List Interest) → All (λ i. 1 ≤ i.quantity) bs → All (λ i. 1 ≤ i.quantity) (xs ++ ys) → ((t : ℕ → Bool) → sum_by (sold_by t) (paired p bs (xs ++ ys)) ≤ sum_by (wanted_by t) xs) ⊎ ((t : ℕ → Bool) → sum_by (wanted_by t) xs ≤ sum_by (sold_by t) (paired p bs (xs ++ ys)))
+pub sold_in_turn : (p : ℕ) (bs xs ys : List Interest) → AllByRecursion (λ i. 1 ≤ i.quantity) bs → AllByRecursion (λ i. 1 ≤ i.quantity) (xs ++ ys) → ((t : ℕ → Bool) → sum_by (sold_by t) (paired p bs (xs ++ ys)) ≤ sum_by (wanted_by t) xs) ⊎ ((t : ℕ → Bool) → sum_by (wanted_by t) xs ≤ sum_by (sold_by t) (paired p bs (xs ++ ys)))
 sold_in_turn p bs xs ys x y =
     ⊎_elim
     (λ none. inl (λ t. omega (arith, none t, sold_flipped t p bs (xs ++ ys) x y)))

@@ -3,7 +3,7 @@ use Rattle.std.proofs.Common.{◌≡◌, ℕ, ◌+◌, ◌-◌, ◌<◌, ◌≤�
 use Rattle.std.proofs.lemmas.List.{append_assoc, length-set, take_more_set, take-append-drop, drop-set-lt, drop_more, at_drop_more}
 use Rattle.std.proofs.lemmas.List.Sums.{sum_by-cons}
 use Rattle.std.proofs.lemmas.Bool.{cases_lt, cases_eq, eq-eqb, ne_eqb, le-leb, lt-leb, cond-true, cond-false}
-use Rattle.std.specs.List.{AllByRecursion as All}
+use Rattle.std.specs.List.{AllByRecursion}
 use Rattle.settling.specs.declared.fill.Fill.{Fill}
 use Rattle.pairing.specs.Pairs.{Served, a_fill, served, paired}
 use Rattle.pairing.specs.Steps.{wanted, Written}
@@ -94,8 +94,8 @@ turn p b w bs s ss x pos e =
 -- so many shares are left, if the buyer at hand wants w more; every other interest wants one at least
 pub record Going (w : ℕ) (rest ss : List Interest) (left : ℕ) : Type 0 where
   pub used : left ≡ min (w + sum_by wanted rest) (sum_by wanted ss)
-  pub buyers : All (λ i. 1 ≤ i.quantity) rest
-  pub sellers : All (λ i. 1 ≤ i.quantity) ss
+  pub buyers : AllByRecursion (λ i. 1 ≤ i.quantity) rest
+  pub sellers : AllByRecursion (λ i. 1 ≤ i.quantity) ss
 
 after_sum : (x : ℕ) (s : Interest) (ss : List Interest) → x ≤ s.quantity → sum_by wanted (sells_after x s ss) + x ≡ s.quantity + sum_by wanted ss
 after_sum x s ss h =
@@ -104,11 +104,11 @@ after_sum x s ss h =
     (λ e. ap (λ l. sum_by wanted l + x) (cond-false (eqb x s.quantity) ss (lessened x (s ∷ ss)) (ne_eqb _ _ e)) ∙ (let k : sum_by wanted (lessened x (s ∷ ss)) + x ≡ s.quantity + sum_by wanted ss = omega (arith, sum_by-cons wanted (interest s.number (s.quantity - x)) ss) in k))
     (cases_eq x s.quantity)
 
-after_all : (x : ℕ) (s : Interest) (ss : List Interest) → x ≤ s.quantity → All (λ i. 1 ≤ i.quantity) ss → All (λ i. 1 ≤ i.quantity) (sells_after x s ss)
+after_all : (x : ℕ) (s : Interest) (ss : List Interest) → x ≤ s.quantity → AllByRecursion (λ i. 1 ≤ i.quantity) ss → AllByRecursion (λ i. 1 ≤ i.quantity) (sells_after x s ss)
 after_all x s ss h a =
     ⊎_elim
-    (λ e. subst (All (λ i. 1 ≤ i.quantity)) (sym (cond-true (eqb x s.quantity) ss (lessened x (s ∷ ss)) (eq-eqb _ _ e))) a)
-    (λ e. subst (All (λ i. 1 ≤ i.quantity)) (sym (cond-false (eqb x s.quantity) ss (lessened x (s ∷ ss)) (ne_eqb _ _ e))) (omega arith, a))
+    (λ e. subst (AllByRecursion (λ i. 1 ≤ i.quantity)) (sym (cond-true (eqb x s.quantity) ss (lessened x (s ∷ ss)) (eq-eqb _ _ e))) a)
+    (λ e. subst (AllByRecursion (λ i. 1 ≤ i.quantity)) (sym (cond-false (eqb x s.quantity) ss (lessened x (s ∷ ss)) (ne_eqb _ _ e))) (omega arith, a))
     (cases_eq x s.quantity)
 
 pub going_on : (w : ℕ) (rest : List Interest) (s : Interest) (ss : List Interest) (left x : ℕ) → x ≡ min w s.quantity → Going w rest (s ∷ ss) left → Going (w - x) rest (sells_after x s ss) (left - x)
@@ -132,7 +132,7 @@ pub no_sells : (p : ℕ) (bs : List Interest) → paired p bs [] ≡ []
 no_sells p [] = refl
 no_sells p (b ∷ bs) = no_sells p bs
 
-none_left : (is : List Interest) → All (λ i. 1 ≤ i.quantity) is → sum_by wanted is ≡ 0 → is ≡ []
+none_left : (is : List Interest) → AllByRecursion (λ i. 1 ≤ i.quantity) is → sum_by wanted is ≡ 0 → is ≡ []
 none_left [] a e = refl
 none_left (i ∷ is) a e = absurd (omega (arith, a.0, sum_by-cons wanted i is))
 
@@ -171,7 +171,7 @@ module _ (sells : List Interest) (j k : ℕ) (d : Interest) (here : j < length s
   first_sell = at_drop_more (lessened k) sells j d here
 
   pub not_taken : (w : ℕ) (rest : List Interest) (left : ℕ) → Going w rest (lessened k (drop j sells)) left → k < (get_or sells j d).quantity
-  not_taken w rest left g = omega (arith, (subst (All (λ i. 1 ≤ i.quantity)) first_sell g.sellers).0)
+  not_taken w rest left g = omega (arith, (subst (AllByRecursion (λ i. 1 ≤ i.quantity)) first_sell g.sellers).0)
 
   pub turned : {n₀ : ℕ} {out₀ fs₀ : List Fill} (p b w : ℕ) (rest : List Interest) (n : ℕ) (out : List Fill) (left x : ℕ) → 0 < w → x ≡ min w sell.quantity → Course n₀ out₀ fs₀ n out (paired p (interest b w ∷ rest) (lessened k (drop j sells))) → Going w rest (lessened k (drop j sells)) left → Turned n₀ out₀ fs₀ p b w rest sell (drop (j + 1) sells) n out left x
   turned {n₀} {out₀} {fs₀} p b w rest n out left x pos e c g =
@@ -201,7 +201,7 @@ module _ (sells : List Interest) (j k : ℕ) (d : Interest) (here : j < length s
 module _ (p : ℕ) (buys : List Interest) (i : ℕ) (d : Interest) (ss : List Interest) where
   pub first_buyer : {n₀ : ℕ} {out₀ fs₀ : List Fill} (n : ℕ) (out : List Fill) (left : ℕ) → i < length buys → Course n₀ out₀ fs₀ n out (paired p (drop i buys) ss) → Going 0 (drop i buys) ss left → Course n out (paired p (get_or buys i d ∷ drop (i + 1) buys) ss) n out (paired p (get_or buys i d ∷ drop (i + 1) buys) ss) × Going (get_or buys i d).quantity (drop (i + 1) buys) ss left
   first_buyer {n₀} {out₀} {fs₀} n out left h c g =
-      let buyers = subst (All (λ b. 1 ≤ b.quantity)) (drop_more buys i d h) g.buyers in
+      let buyers = subst (AllByRecursion (λ b. 1 ≤ b.quantity)) (drop_more buys i d h) g.buyers in
       let wants = ap (sum_by wanted) (drop_more buys i d h) ∙ sum_by-cons wanted (get_or buys i d) (drop (i + 1) buys) in (
         begun n out _ (subst (Course n₀ out₀ fs₀ n out) (at_drop_more (λ bs. paired p bs ss) buys i d h) c).room,
         record { used = omega (arith, g.used, wants); buyers = buyers.1; sellers = g.sellers },

@@ -1,6 +1,6 @@
 -- What holds of the queues and the fills of every book.
 use Rattle.std.specs.Prelude.{◌≡◌, ℕ, ◌≤◌, Bool, true, ◌⊎◌, List, [], ◌∷◌, ◌++◌, length, sum_by}
-use Rattle.std.specs.List.{AllByRecursion as All}
+use Rattle.std.specs.List.{AllByRecursion}
 use Rattle.std.specs.List.Sorted.{IsPermutation}
 use Rattle.orders.specs.declared.terms.Side.{Side}
 use Rattle.orders.specs.declared.terms.Terms.{Terms}
@@ -17,11 +17,11 @@ use Rattle.pairing.specs.declared.placed.Placed.{Placed}
 -- each order is ahead of all behind it
 abbrev pub InOrder : (Placed → Placed → Bool) → List Placed → Type 0
 InOrder before [] = Unit {0}
-InOrder before (a ∷ q) = All (λ b. before a b ≡ true) q × InOrder before q
+InOrder before (a ∷ q) = AllByRecursion (λ b. before a b ≡ true) q × InOrder before q
 
 -- of a queue in two parts, either nobody behind trades, or all in front are filled
 abbrev pub InTurn : List Fill → List Placed → Type 0
-InTurn fs q = (front behind : List Placed) → q ≡ front ++ behind → All (λ b. traded_of b.terms.number fs ≡ 0) behind ⊎ All (λ a. traded_of a.terms.number fs ≡ a.terms.quantity) front
+InTurn fs q = (front behind : List Placed) → q ≡ front ++ behind → AllByRecursion (λ b. traded_of b.terms.number fs ≡ 0) behind ⊎ AllByRecursion (λ a. traded_of a.terms.number fs ≡ a.terms.quantity) front
 
 -- a queue stands in the order of priority, holds just the orders that trade on the side at the price, and is served from the front
 pub record ByPriority (q : Quote) (ts : List Terms) (p : ℕ) (side : Side) : Type 0 where

@@ -2,7 +2,7 @@
 use Rattle.std.proofs.Common.{◌≡◌, ℕ, zero, suc, ◌+◌, ◌-◌, ◌/◌, ◌<◌, ◌≤◌, min, Bool, true, false, cond, ◌&&◌, eqb, leb, List, [], ◌∷◌, ℤ, pos, ◌-ℤ◌, sum_by, sym, refl, ap, ◌∙◌, subst, ⊎_elim, div-mul-le_self, arith}
 use Rattle.std.proofs.ByRecursion.{All-weaker}
 use Rattle.std.proofs.lemmas.Bool.{leb-true, le-leb, eqb-true, eqb-false, eq-eqb, ne_eqb, and_parts, and_from, cases_Bool, cases_eq}
-use Rattle.std.specs.List.{AllByRecursion as All}
+use Rattle.std.specs.List.{AllByRecursion}
 use Rattle.orders.specs.declared.terms.Kind.{Kind}
 use Rattle.orders.specs.declared.terms.Kind.TheVariants.{Market, Limit, StopMarket, StopLimit}
 use Rattle.orders.specs.declared.terms.Side.{Side}
@@ -37,11 +37,11 @@ kind_still side (StopMarket s) x y h e = e
 kind_still side (StopLimit l s) x y h e = e
 
 -- a buy that takes x, which is from bid to ask and not its limit, takes x + 1
-next_takes : (q : Quote) (x : ℕ) → from_bid_to_ask q x ≡ true → (k : Kind) → All (λ r. eqb r x ≡ false) (level_of q k) → kind_takes Buy k x ≡ true → kind_takes Buy k (x + 1) ≡ true
+next_takes : (q : Quote) (x : ℕ) → from_bid_to_ask q x ≡ true → (k : Kind) → AllByRecursion (λ r. eqb r x ≡ false) (level_of q k) → kind_takes Buy k x ≡ true → kind_takes Buy k (x + 1) ≡ true
 next_takes q x w Market a e = refl
 next_takes q x w (Limit l) a e =
     ⊎_elim
-    (λ same. let here = subst (λ b. All (λ r. eqb r x ≡ false) (cond b (l ∷ []) [])) (subst (λ r. from_bid_to_ask q r ≡ true) (sym same) w) a in absurd (eqb-false l x here.0 same))
+    (λ same. let here = subst (λ b. AllByRecursion (λ r. eqb r x ≡ false) (cond b (l ∷ []) [])) (subst (λ r. from_bid_to_ask q r ≡ true) (sym same) w) a in absurd (eqb-false l x here.0 same))
     (λ other. le-leb (x + 1) l (omega (arith, leb-true x l e)))
     (cases_eq l x)
 next_takes q x w (StopMarket s) a e = e
@@ -57,7 +57,7 @@ module _ (q : Quote) (ts : List Terms) where
   volume side p = sum_by (open_at side p) ts
 
   -- the volume of a side at y is at least that at x, if whatever takes x takes y
-  volume_grows : (side : Side) (x y : ℕ) → All (λ t. kind_takes side t.kind x ≡ true → kind_takes side t.kind y ≡ true) ts → volume side x ≤ volume side y
+  volume_grows : (side : Side) (x y : ℕ) → AllByRecursion (λ t. kind_takes side t.kind x ≡ true → kind_takes side t.kind y ≡ true) ts → volume side x ≤ volume side y
   volume_grows side x y a = sum_le (open_at side x) (open_at side y) ts (All-weaker _ _ (λ t h. keeps_more _ _ _ t.quantity h) ts a)
 
   volume_still : (side : Side) (x y : ℕ) → NoWorse side x y → volume side x ≤ volume side y
@@ -70,7 +70,7 @@ module _ (q : Quote) (ts : List Terms) where
   not_ask x h = rw (ne_eqb x q.ask h) (omega arith)
 
   -- a price that is no level trades no more than the next one
-  next_trades : (x : ℕ) → Between q x → All (λ r. eqb r x ≡ false) (levels_of q ts) → shares_at q ts x ≤ shares_at q ts (x + 1)
+  next_trades : (x : ℕ) → Between q x → AllByRecursion (λ r. eqb r x ≡ false) (levels_of q ts) → shares_at q ts x ≤ shares_at q ts (x + 1)
   next_trades x w a =
       let inside : from_bid_to_ask q x ≡ true = and_from _ _ (le-leb q.bid x w.0) (le-leb x q.ask w.1) in
       let each = all_joined (λ r. eqb r x ≡ false) (λ t. level_of q t.kind) ts a.1.1 in
@@ -78,7 +78,7 @@ module _ (q : Quote) (ts : List Terms) where
       omega (arith, not_bid x (λ e. eqb-false q.bid x a.0 (sym e)), not_ask x (λ e. eqb-false q.ask x a.1.0 (sym e)), volume_still Sell x (x + 1) (omega arith))
 
   -- so no price trades more than the best level
-  no_more : (m : ℕ) → All (λ r. shares_at q ts r ≤ m) (levels_of q ts) → (n x : ℕ) → x + n ≡ q.ask → q.bid ≤ x → shares_at q ts x ≤ m
+  no_more : (m : ℕ) → AllByRecursion (λ r. shares_at q ts r ≤ m) (levels_of q ts) → (n x : ℕ) → x + n ≡ q.ask → q.bid ≤ x → shares_at q ts x ≤ m
   no_more m a zero x e l = subst (λ z. shares_at q ts z ≤ m) (let f : q.ask ≡ x = omega arith in f) a.1.0
   no_more m a (suc n) x e l =
       ⊎_elim
@@ -101,7 +101,7 @@ module _ (q : Quote) (ts : List Terms) where
   best_leads : Leads (demand_at q ts) (supply_at q ts) (levels_of q ts) best
   best_leads = leads (demand_at q ts) (supply_at q ts) q.bid (q.ask ∷ limit_levels q ts)
 
-  level_between : (k : Kind) → All (Between q) (level_of q k)
+  level_between : (k : Kind) → AllByRecursion (Between q) (level_of q k)
   level_between Market = tt
   level_between (Limit l) =
       ⊎_elim
@@ -111,7 +111,7 @@ module _ (q : Quote) (ts : List Terms) where
   level_between (StopMarket s) = tt
   level_between (StopLimit l s) = tt
 
-  levels_between : q.bid < q.ask → All (Between q) (levels_of q ts)
+  levels_between : q.bid < q.ask → AllByRecursion (Between q) (levels_of q ts)
   levels_between h = ((omega arith, omega arith), ((omega arith, omega arith), joined_all (Between q) (λ t. level_of q t.kind) (λ t. level_between t.kind) ts))
 
   best_low : q.bid < q.ask → Between q best.lowest

@@ -3,19 +3,19 @@ use Rattle.std.proofs.Common.{◌≡◌, ℕ, ◌<◌, ◌≤◌, min, max, Bool
 use Rattle.std.proofs.ByRecursion.{All-append}
 use Rattle.std.proofs.lemmas.List.Sums.{sum_by-cons, fold_push}
 use Rattle.std.proofs.lemmas.Bool.{and_parts, and_from, cases_Bool, cases_lt, eqb-true}
-use Rattle.std.specs.List.{flat_map, AllByRecursion as All}
+use Rattle.std.specs.List.{flat_map, AllByRecursion}
 use Rattle.pricing.specs.Price.{all_of, lowest_of, highest_of}
 
 module _ {X : Type 0} where
-  pub kept_none : (t : X → Bool) (xs : List X) → All (λ x. t x ≡ false) xs → filter t xs ≡ []
+  pub kept_none : (t : X → Bool) (xs : List X) → AllByRecursion (λ x. t x ≡ false) xs → filter t xs ≡ []
   kept_none t [] a = refl
   kept_none t (x ∷ xs) a = rw a.0 (kept_none t xs a.1)
 
-  pub kept_all : (t : X → Bool) (xs : List X) → All (λ x. t x ≡ true) xs → filter t xs ≡ xs
+  pub kept_all : (t : X → Bool) (xs : List X) → AllByRecursion (λ x. t x ≡ true) xs → filter t xs ≡ xs
   kept_all t [] a = refl
   kept_all t (x ∷ xs) a = rw a.0 (ap (λ l. x ∷ l) (kept_all t xs a.1))
 
-  pub kept_same : (t u : X → Bool) (xs : List X) → All (λ x. t x ≡ u x) xs → filter t xs ≡ filter u xs
+  pub kept_same : (t u : X → Bool) (xs : List X) → AllByRecursion (λ x. t x ≡ u x) xs → filter t xs ≡ filter u xs
   kept_same t u [] a = refl
   kept_same t u (x ∷ xs) a = rw a.0 (ap (λ l. cond (u x) (x ∷ l) l) (kept_same t u xs a.1))
 
@@ -23,15 +23,15 @@ module _ {X : Type 0} where
   kept_twice t u [] = refl
   kept_twice t u (x ∷ xs) = ⊎_elim (λ e. rw e (ap (λ l. cond (u x) (x ∷ l) l) (kept_twice t u xs))) (λ e. rw e (kept_twice t u xs)) (cases_Bool (t x))
 
-  pub all_every : (P : X → Type 0) → ((x : X) → P x) → (xs : List X) → All P xs
+  pub all_every : (P : X → Type 0) → ((x : X) → P x) → (xs : List X) → AllByRecursion P xs
   all_every P h [] = tt
   all_every P h (x ∷ xs) = (h x, all_every P h xs)
 
-  pub all_both : (P Q : X → Type 0) (xs : List X) → All P xs → All Q xs → All (λ x. P x × Q x) xs
+  pub all_both : (P Q : X → Type 0) (xs : List X) → AllByRecursion P xs → AllByRecursion Q xs → AllByRecursion (λ x. P x × Q x) xs
   all_both P Q [] a b = tt
   all_both P Q (x ∷ xs) a b = ((a.0, b.0), all_both P Q xs a.1 b.1)
 
-  pub sum_le : (f g : X → ℕ) (xs : List X) → All (λ x. f x ≤ g x) xs → sum_by f xs ≤ sum_by g xs
+  pub sum_le : (f g : X → ℕ) (xs : List X) → AllByRecursion (λ x. f x ≤ g x) xs → sum_by f xs ≤ sum_by g xs
   sum_le f g [] a = omega arith
   sum_le f g (x ∷ xs) a = omega (arith, a.0, sum_le f g xs a.1, sum_by-cons f x xs, sum_by-cons g x xs)
 
@@ -39,24 +39,24 @@ module _ {X : Type 0} where
   folded_append f z [] ys = refl
   folded_append f z (x ∷ xs) ys = folded_append f (f z x) xs ys
 
-  all_parts : (P : X → Type 0) (xs ys : List X) → All P (xs ++ ys) → All P xs × All P ys
+  all_parts : (P : X → Type 0) (xs ys : List X) → AllByRecursion P (xs ++ ys) → AllByRecursion P xs × AllByRecursion P ys
   all_parts P [] ys a = (tt, a)
   all_parts P (x ∷ xs) ys a = let r = all_parts P xs ys a.1 in ((a.0, r.0), r.1)
 
   -- what holds of all that the elements add holds of what each adds
-  pub all_joined : {Y : Type 0} (P : X → Type 0) (f : Y → List X) (ys : List Y) → All P (flat_map f ys) → All (λ y. All P (f y)) ys
+  pub all_joined : {Y : Type 0} (P : X → Type 0) (f : Y → List X) (ys : List Y) → AllByRecursion P (flat_map f ys) → AllByRecursion (λ y. AllByRecursion P (f y)) ys
   all_joined P f [] a = tt
   all_joined P f (y ∷ ys) a = let r = all_parts P (f y) (flat_map f ys) a in (r.0, all_joined P f ys r.1)
 
-  pub joined_all : {Y : Type 0} (P : X → Type 0) (f : Y → List X) → ((y : Y) → All P (f y)) → (ys : List Y) → All P (flat_map f ys)
+  pub joined_all : {Y : Type 0} (P : X → Type 0) (f : Y → List X) → ((y : Y) → AllByRecursion P (f y)) → (ys : List Y) → AllByRecursion P (flat_map f ys)
   joined_all P f h [] = tt
   joined_all P f h (y ∷ ys) = All-append P (f y) (flat_map f ys) (h y) (joined_all P f h ys)
 
-pub all_of_all : (t : ℕ → Bool) (ps : List ℕ) → all_of t ps ≡ true → All (λ p. t p ≡ true) ps
+pub all_of_all : (t : ℕ → Bool) (ps : List ℕ) → all_of t ps ≡ true → AllByRecursion (λ p. t p ≡ true) ps
 all_of_all t [] e = tt
 all_of_all t (p ∷ ps) e = let h = and_parts (t p) (all_of t ps) e in (h.0, all_of_all t ps h.1)
 
-pub all_all_of : (t : ℕ → Bool) (ps : List ℕ) → All (λ p. t p ≡ true) ps → all_of t ps ≡ true
+pub all_all_of : (t : ℕ → Bool) (ps : List ℕ) → AllByRecursion (λ p. t p ≡ true) ps → all_of t ps ≡ true
 all_all_of t [] a = refl
 all_all_of t (p ∷ ps) a = and_from (t p) (all_of t ps) a.0 (all_all_of t ps a.1)
 
@@ -83,15 +83,15 @@ highest_push (k ∷ ks) p h = fold_push max k ks p
 
 module _ (P : ℕ → Type 0) where
   -- f gives one of its two numbers
-  either_all : (f : ℕ → ℕ → ℕ) → ((a b : ℕ) → (a ≡ f a b) ⊎ (b ≡ f a b)) → (k : ℕ) (ks : List ℕ) → P k → All P ks → P (fold f k ks)
+  either_all : (f : ℕ → ℕ → ℕ) → ((a b : ℕ) → (a ≡ f a b) ⊎ (b ≡ f a b)) → (k : ℕ) (ks : List ℕ) → P k → AllByRecursion P ks → P (fold f k ks)
   either_all f one k [] x a = x
   either_all f one k (r ∷ ks) x a = either_all f one (f k r) ks (⊎_elim (λ e. subst P e x) (λ e. subst P e a.0) (one k r)) a.1
 
-  pub lowest_all : (ks : List ℕ) → 0 < length ks → All P ks → P (lowest_of ks)
+  pub lowest_all : (ks : List ℕ) → 0 < length ks → AllByRecursion P ks → P (lowest_of ks)
   lowest_all [] h a = absurd (omega arith)
   lowest_all (k ∷ ks) h a = either_all min (λ a b. ⊎_elim (λ l. inl (omega arith)) (λ l. inr (omega arith)) (cases_lt a b)) k ks a.0 a.1
 
-  pub highest_all : (ks : List ℕ) → 0 < length ks → All P ks → P (highest_of ks)
+  pub highest_all : (ks : List ℕ) → 0 < length ks → AllByRecursion P ks → P (highest_of ks)
   highest_all [] h a = absurd (omega arith)
   highest_all (k ∷ ks) h a = either_all max (λ a b. ⊎_elim (λ l. inr (omega arith)) (λ l. inl (omega arith)) (cases_lt a b)) k ks a.0 a.1
 
@@ -108,7 +108,7 @@ lowest_le_highest [] = omega arith
 lowest_le_highest (k ∷ ks) = omega (arith, min_le k ks, le_max k ks)
 
 -- either no element is x, or x has what all have
-pub seek : (P : ℕ → Type 0) (x : ℕ) (ps : List ℕ) → All P ps → (All (λ r. eqb r x ≡ false) ps ⊎ P x)
+pub seek : (P : ℕ → Type 0) (x : ℕ) (ps : List ℕ) → AllByRecursion P ps → (AllByRecursion (λ r. eqb r x ≡ false) ps ⊎ P x)
 seek P x [] a = inl tt
 seek P x (p ∷ ps) a =
     ⊎_elim (λ e. inr (subst P (eqb-true p x e) a.0))

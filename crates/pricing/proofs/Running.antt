@@ -4,7 +4,7 @@ use Rattle.std.proofs.lemmas.List.Elements.{filter-append}
 use Rattle.std.proofs.ByRecursion.{All-weaker, All-push, kept_by_passes, all_kept_by}
 use Rattle.std.proofs.lemmas.List.{append-nil, append_assoc, length_push}
 use Rattle.std.proofs.lemmas.Bool.{ltb-true, ltb-false, leb-true, le-leb, eqb-true, eq-eqb, ne_eqb, and_parts, and_from, and_left, and_right, cases_Bool}
-use Rattle.std.specs.List.{AllByRecursion as All}
+use Rattle.std.specs.List.{AllByRecursion}
 use Rattle.pricing.proofs.Filters.{kept_none, kept_same, kept_twice, all_both, all_of_all, all_all_of, all_of_push, and_true, lowest_push, highest_push, lowest_all, highest_all, lowest_le_highest}
 use Rattle.pricing.specs.Price.{all_of, with_most, with_least, lowest_of, highest_of, price_among}
 use Rattle.pricing.specs.Steps.{lone_best, tied_best, better_of, chosen_price}
@@ -35,8 +35,8 @@ module _ (d s : ℕ → ℕ) where
 
   -- b is the best of the levels ps
   pub record Leads (ps : List ℕ) (b : Best) : Type 0 where
-    pub most : All (λ r. traded r ≤ b.shares) ps
-    pub least : All (λ r. traded r ≡ b.shares → b.difference ≤ apart r) ps
+    pub most : AllByRecursion (λ r. traded r ≤ b.shares) ps
+    pub least : AllByRecursion (λ r. traded r ≡ b.shares → b.difference ≤ apart r) ps
     pub tells : Tells b (filter (as_good b) ps)
 
   abbrev Wins : Best → ℕ → Type 0
@@ -64,7 +64,7 @@ module _ (d s : ℕ → ℕ) where
   wins : (ps : List ℕ) (b : Best) (p : ℕ) → Leads ps b → Wins b p → Leads (ps ++ p ∷ []) (one p)
   wins ps b p st w =
       let both = all_both (λ r. traded r ≤ b.shares) (λ r. traded r ≡ b.shares → b.difference ≤ apart r) ps st.most st.least in
-      let worse : All (λ r. as_good (one p) r ≡ false) ps =
+      let worse : AllByRecursion (λ r. as_good (one p) r ≡ false) ps =
       All-weaker _ _ (λ r h. not_good (one p) r (λ e f. ⊎_elim (λ l. omega (arith, h.0)) (λ l. omega (arith, h.1 (e ∙ sym l.0), l.1)) w)) ps both in
       record {
         most = All-push (λ r. traded r ≤ traded p) ps p (All-weaker _ _ (λ r h. ⊎_elim (λ l. omega arith) (λ l. omega (arith, l.0)) w) ps st.most) (omega arith);
@@ -129,16 +129,16 @@ module _ (d s : ℕ → ℕ) where
     kept = filter (as_good b) ps
 
     -- the lowest and the highest kept level have what all kept levels have
-    low_kept : (P : ℕ → Type 0) → All P kept → P b.lowest
+    low_kept : (P : ℕ → Type 0) → AllByRecursion P kept → P b.lowest
     low_kept P a = subst P (sym st.tells.low) (lowest_all P kept st.tells.some a)
 
-    high_kept : (P : ℕ → Type 0) → All P kept → P b.highest
+    high_kept : (P : ℕ → Type 0) → AllByRecursion P kept → P b.highest
     high_kept P a = subst P (sym st.tells.high) (highest_all P kept st.tells.some a)
 
-    pub low_all : (P : ℕ → Type 0) → All P ps → P b.lowest
+    pub low_all : (P : ℕ → Type 0) → AllByRecursion P ps → P b.lowest
     low_all P a = low_kept P (all_kept_by (as_good b) P ps a)
 
-    pub high_all : (P : ℕ → Type 0) → All P ps → P b.highest
+    pub high_all : (P : ℕ → Type 0) → AllByRecursion P ps → P b.highest
     high_all P a = high_kept P (all_kept_by (as_good b) P ps a)
 
     good_parts : (r : ℕ) → as_good b r ≡ true → (traded r ≡ b.shares) × (apart r ≡ b.difference)
@@ -159,7 +159,7 @@ module _ (d s : ℕ → ℕ) where
     low_high = omega (arith, st.tells.low, st.tells.high, lowest_le_highest kept)
 
     -- a test of all levels is the test t, if the lowest kept level shows that they agree
-    tested : (test : ℕ → Bool) (t : Bool) (rs : List ℕ) → ((P : ℕ → Type 0) → All P rs → P b.lowest) → (t ≡ true → All (λ r. test r ≡ true) rs) → (test b.lowest ≡ true → t ≡ true) → all_of test rs ≡ t
+    tested : (test : ℕ → Bool) (t : Bool) (rs : List ℕ) → ((P : ℕ → Type 0) → AllByRecursion P rs → P b.lowest) → (t ≡ true → AllByRecursion (λ r. test r ≡ true) rs) → (test b.lowest ≡ true → t ≡ true) → all_of test rs ≡ t
     tested test t rs low met back =
         ⊎_elim (λ e. all_all_of test rs (met e) ∙ sym e)
         (λ e. ⊎_elim (λ a. a ∙ sym (back (low (λ r. test r ≡ true) (all_of_all test rs a)))) (λ a. a ∙ sym e) (cases_Bool (all_of test rs)))
@@ -174,7 +174,7 @@ module _ (d s : ℕ → ℕ) where
     abbrev tops : List ℕ
     tops = filter (λ r. eqb (traded r) b.shares) ps
 
-    tops_least : All (λ r. b.difference ≤ apart r) tops
+    tops_least : AllByRecursion (λ r. b.difference ≤ apart r) tops
     tops_least =
         All-weaker _ _ (λ r h. h.1 (eqb-true (traded r) b.shares h.0)) tops
         (all_both (λ r. eqb (traded r) b.shares ≡ true) (λ r. traded r ≡ b.shares → b.difference ≤ apart r) tops
@@ -186,7 +186,7 @@ module _ (d s : ℕ → ℕ) where
     least_test : (r : ℕ) → b.difference ≤ apart r → all_of (λ x. leb (apart r) (apart x)) tops ≡ eqb (apart r) b.difference
     least_test r h =
         tested (λ x. leb (apart r) (apart x)) (eqb (apart r) b.difference) tops
-        (λ P a. low_kept P (subst (All P) twice (all_kept_by (λ r. eqb (apart r) b.difference) P tops a)))
+        (λ P a. low_kept P (subst (AllByRecursion P) twice (all_kept_by (λ r. eqb (apart r) b.difference) P tops a)))
         (λ e. All-weaker _ _ (λ x l. le-leb (apart r) (apart x) (omega (arith, eqb-true (apart r) b.difference e))) tops tops_least)
         (λ a. eq-eqb (apart r) b.difference (omega (arith, leb-true (apart r) (apart b.lowest) a, low_good.1)))
 

@@ -3,7 +3,7 @@ use Rattle.std.proofs.Common.{◌≡◌, false, not, List, ◌++◌, map, filter
 use Rattle.std.proofs.ByRecursion.{All-weaker, All-append, All-map, kept_by_passes}
 use Rattle.std.proofs.lemmas.List.{append-nil}
 use Rattle.std.proofs.lemmas.Bool.{not-true, not_from_false}
-use Rattle.std.specs.List.{AllByRecursion as All}
+use Rattle.std.specs.List.{AllByRecursion}
 use Rattle.orders.specs.declared.terms.Kind.{Kind}
 use Rattle.orders.specs.declared.terms.Kind.TheVariants.{Market, Limit, StopMarket, StopLimit}
 use Rattle.orders.specs.declared.terms.Side.{Side}
@@ -19,7 +19,7 @@ ready_quiet q side (StopMarket s) = refl
 ready_quiet q side (StopLimit l s) = refl
 
 -- after the stops no order triggers
-pub quiet : (q : Quote) (ts : List Terms) → All (λ t. triggered_by q t ≡ false) (after_stops q ts)
+pub quiet : (q : Quote) (ts : List Terms) → AllByRecursion (λ t. triggered_by q t ≡ false) (after_stops q ts)
 quiet q ts =
     All-append (λ t. triggered_by q t ≡ false) (staying_orders q ts) (triggered_orders q ts)
     (All-weaker _ _ (λ t e. not-true (triggered_by q t) e) (staying_orders q ts) (kept_by_passes (λ t. not (triggered_by q t)) ts))

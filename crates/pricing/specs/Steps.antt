@@ -1,6 +1,6 @@
 -- What the steps of the code compute: lists in arrays, and the best of the levels so far.
 use Rattle.std.specs.Prelude.{◌≡◌, ℕ, ◌+◌, ◌-◌, ◌≤◌, min, max, cond, ◌&&◌, List, [], ◌∷◌, ◌++◌, length, take, fold, nat_lt}
-use Rattle.std.specs.List.{AllByRecursion as All}
+use Rattle.std.specs.List.{AllByRecursion}
 use Rattle.orders.specs.declared.terms.Terms.{Terms}
 use Rattle.book.specs.Lists.{Sound}
 use Rattle.pricing.specs.Depth.{demand_at, supply_at, limit_levels}
@@ -19,7 +19,7 @@ listed l = take l.count l.orders
 -- so few orders, with so few shares, that their sum fits
 pub record Bounded (ts : List Terms) : Type 0 where
   pub few : length ts ≤ 256
-  pub small : All (λ t. t.quantity ≤ 1000000) ts
+  pub small : AllByRecursion (λ t. t.quantity ≤ 1000000) ts
 
 -- one more order taken in: it stays, or it is triggered
 pub record Added (q : Quote) (t : Terms) (before after : Parted) : Type 0 where

@@ -6,7 +6,7 @@ use Rattle.std.proofs.lemmas.Bool.{and_parts, and_from, cond-true, cond-false, l
 use Rattle.std.proofs.lemmas.Bool.Decides.{nat_tests}
 use Rattle.std.specs.Option.{ok_or}
 use Rattle.std.specs.Result.{result_map_both}
-use Rattle.std.specs.List.{flat_map, AllByRecursion as All}
+use Rattle.std.specs.List.{flat_map, AllByRecursion}
 use Rattle.orders.specs.Checks.{identified, on_lot, on_tick, kind_named, terms_under, checked_ticket}
 use Rattle.orders.specs.Forms.{type_of, side_code, type_code}
 use Rattle.orders.specs.Ranges.{in_range, has_prices}
@@ -134,7 +134,7 @@ module _ (ts : List Terms) where
 nothing : Terms
 nothing = record { number = 0; participant = 0; side = Buy; kind = kind.Market; quantity = 0 }
 
-module _ (g : Grid) (ts : List Terms) (sound : Sound ts) (ok : All Fits ts) (on : All (λ t. on_grid g t ≡ true) ts) where
+module _ (g : Grid) (ts : List Terms) (sound : Sound ts) (ok : AllByRecursion Fits ts) (on : AllByRecursion (λ t. on_grid g t ≡ true) ts) where
   upto_encoded : (k : ℕ) → k ≤ length ts → orders_upto g (encode ts) (length ts) k ≡ Ok (take k ts)
   upto_encoded zero h = refl
   upto_encoded (suc k) h =
@@ -157,9 +157,9 @@ module _ (g : Grid) (ts : List Terms) (sound : Sound ts) (ok : All Fits ts) (on 
       ∙ ap Ok (take_all (length ts) ts (omega arith))
 
 -- the numbers of an order that is in range fit their bytes, if its number and its participant do
-all_fit : (ts : List Terms) → All (λ t. t.number < 2 ^ 32) ts → All (λ t. t.participant < 2 ^ 16) ts → All (λ t. in_range t ≡ true) ts → All Fits ts
+all_fit : (ts : List Terms) → AllByRecursion (λ t. t.number < 2 ^ 32) ts → AllByRecursion (λ t. t.participant < 2 ^ 16) ts → AllByRecursion (λ t. in_range t ≡ true) ts → AllByRecursion Fits ts
 all_fit [] n p r = tt
 all_fit (t ∷ ts) n p r = (fits t n.0 p.0 r.0, all_fit ts n.1 p.1 r.1)
 
-pub loads_back : (ts : List Terms) → Sound ts → All (λ t. t.number < 2 ^ 32) ts → All (λ t. t.participant < 2 ^ 16) ts → LoadsBack ts
+pub loads_back : (ts : List Terms) → Sound ts → AllByRecursion (λ t. t.number < 2 ^ 32) ts → AllByRecursion (λ t. t.participant < 2 ^ 16) ts → LoadsBack ts
 loads_back ts s n p g on = decode_encode g ts s (all_fit ts n p s.ranged) on

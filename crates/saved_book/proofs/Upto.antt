@@ -3,7 +3,7 @@ use Rattle.std.proofs.Common.{◌≡◌, ℕ, zero, suc, ◌+◌, ◌-◌, ◌*�
 use Rattle.std.proofs.ByRecursion.{All-push}
 use Rattle.std.proofs.lemmas.List.{length_push}
 use Rattle.std.proofs.lemmas.Bool.{cases_lt, or_right, or_left, eq-eqb, both_ways, cond-true, cond-false}
-use Rattle.std.specs.List.{slice_get, AllByRecursion as All}
+use Rattle.std.specs.List.{slice_get, AllByRecursion}
 use Rattle.std.specs.Result.{result_ok}
 use Rattle.orders.specs.Ranges.{in_range}
 use Rattle.orders.specs.Results.{seen}
@@ -71,11 +71,11 @@ module _ (g : Grid) (bs : List ℕ) (n : ℕ) where
       let b = behind k (orders_upto g bs n k) (record_at g bs n k) ts e in
       ap distinct b.whole ∙ distinct_push b.orders b.order (upto_distinct k b.orders b.read_before) b.apart
 
-  pub upto_ranged : (k : ℕ) (ts : List Terms) → orders_upto g bs n k ≡ Ok ts → All (λ t. in_range t ≡ true) ts
-  upto_ranged zero ts e = let d : [] ≡ ts = cc in subst (All (λ t. in_range t ≡ true)) d tt
+  pub upto_ranged : (k : ℕ) (ts : List Terms) → orders_upto g bs n k ≡ Ok ts → AllByRecursion (λ t. in_range t ≡ true) ts
+  upto_ranged zero ts e = let d : [] ≡ ts = cc in subst (AllByRecursion (λ t. in_range t ≡ true)) d tt
   upto_ranged (suc k) ts e =
       let b = behind k (orders_upto g bs n k) (record_at g bs n k) ts e in
-      subst (All (λ t. in_range t ≡ true)) (sym b.whole) (All-push (λ t. in_range t ≡ true) b.orders b.order (upto_ranged k b.orders b.read_before) (read_ranged g bs n k b.order b.read_here))
+      subst (AllByRecursion (λ t. in_range t ≡ true)) (sym b.whole) (All-push (λ t. in_range t ≡ true) b.orders b.order (upto_ranged k b.orders b.read_before) (read_ranged g bs n k b.order b.read_here))
 
   -- the order at a place is that of the record there
   pub upto_nth : (m : ℕ) (ts : List Terms) (k : ℕ) → orders_upto g bs n m ≡ Ok ts → k < m → slice_get ts k ≡ result_ok (record_at g bs n k)

@@ -1,7 +1,7 @@
 -- What saving, accepting and loading give.
 use Rattle.std.specs.Prelude.{◌≡◌, ℕ, ◌<◌, ◌≤◌, Bool, true, cond, ◌&&◌, List, [], ◌++◌, length, drop, IfOk, IfErr, Ok, Err, Result, ◌==◌, nat_le}
 use Rattle.std.specs.Result.{result_map_both}
-use Rattle.std.specs.List.{AllByRecursion as All}
+use Rattle.std.specs.List.{AllByRecursion}
 use Rattle.orders.specs.Checks.{on_lot, on_tick}
 use Rattle.orders.specs.Ticks.{Grid}
 use Rattle.orders.specs.declared.refusal.Refusal.{Refusal}
@@ -30,7 +30,7 @@ on_grid g t = on_lot g t.quantity && prices_on_tick g t.kind
 
 -- loading what was saved: bytes of a book on a grid mean that book
 abbrev pub LoadsBack : List Terms → Type 0
-LoadsBack ts = (g : Grid) → All (λ t. on_grid g t ≡ true) ts → decode g (encode ts) ≡ Ok ts
+LoadsBack ts = (g : Grid) → AllByRecursion (λ t. on_grid g t ≡ true) ts → decode g (encode ts) ≡ Ok ts
 
 -- saving what was loaded: the orders that bytes mean are saved as these bytes
 abbrev pub SavesBack : Grid → List ℕ → Type 0

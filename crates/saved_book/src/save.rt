@@ -1,6 +1,6 @@
 // A book written as bytes.
 ghost use Rattle.std.specs.Prelude.{◌≡◌, ◌+◌, ◌*◌, ◌^◌, ◌<◌, ◌≤◌, ◌++◌, length};
-ghost use Rattle.std.specs.List.{flat_map, AllByRecursion as All};
+ghost use Rattle.std.specs.List.{flat_map, AllByRecursion};
 ghost use Rattle.saved_book.specs.Calls.{Save};
 ghost use Rattle.saved_book.specs.Encoding.{four, number_bytes, record_bytes};
 ghost use Rattle.saved_book.specs.Steps.{laid};
@@ -24,7 +24,7 @@ fn put_head(out: &mut [u8], count: usize)
 fn put_numbers<B: Book>(book: &B, out: &mut [u8])
     requires { 8 + 4 * length (B.Book.orders book.now) ≤ length out.old }
     ensures after { out.new ≡ laid 8 (flat_map number_bytes (B.Book.orders book.now)) out.old }
-    ensures fit { All (λ t. t.number < 2 ^ 32) (B.Book.orders book.now) }
+    ensures fit { AllByRecursion (λ t. t.number < 2 ^ 32) (B.Book.orders book.now) }
 {
     let mut place = 0;
     while let Some(order) = book.order_at(place) {
@@ -38,7 +38,7 @@ fn put_numbers<B: Book>(book: &B, out: &mut [u8])
 fn put_records<B: Book>(book: &B, out: &mut [u8], at: usize)
     requires { at + 16 * length (B.Book.orders book.now) ≤ length out.old }
     ensures after { out.new ≡ laid at (flat_map record_bytes (B.Book.orders book.now)) out.old }
-    ensures fit { All (λ t. t.participant < 2 ^ 16) (B.Book.orders book.now) }
+    ensures fit { AllByRecursion (λ t. t.participant < 2 ^ 16) (B.Book.orders book.now) }
 {
     let mut place = 0;
     while let Some(order) = book.order_at(place) {

@@ -3,7 +3,7 @@ use Rattle.std.proofs.Common.{◌≡◌, ℕ, ◌+◌, ◌-◌, ◌<◌, Bool, t
 use Rattle.std.proofs.ByRecursion.{All-weaker}
 use Rattle.std.proofs.lemmas.List.{take_more}
 use Rattle.std.proofs.lemmas.Bool.{cases_Bool, and_parts, and_from, not-true, eqb-true, eq-eqb, le-leb}
-use Rattle.std.specs.List.{AllByRecursion as All}
+use Rattle.std.specs.List.{AllByRecursion}
 use Rattle.orders.specs.Ranges.{in_range, with_quantity}
 use Rattle.orders.specs.declared.terms.Terms.{Terms}
 use Rattle.book.proofs.General.{all_of}
@@ -23,14 +23,14 @@ module _ (n q : ℕ) where
   lone_here : (t : Terms) → eqb t.number n ≡ true → traded_of t.number (lone_fill n q ∷ []) ≡ q
   lone_here t e = let same = eq-eqb n t.number (sym (eqb-true t.number n e)) in rw same (omega arith)
 
-  unheld : (ts : List Terms) → held n ts ≡ false → All (λ t. in_range t ≡ true) ts → after_fills (lone_fill n q ∷ []) ts ≡ ts
+  unheld : (ts : List Terms) → held n ts ≡ false → AllByRecursion (λ t. in_range t ≡ true) ts → after_fills (lone_fill n q ∷ []) ts ≡ ts
   unheld ts h r = fills_untraded (lone_fill n q ∷ []) ts (All-weaker _ _ lone_other ts (not_held_each n ts h)) r
 
   -- F puts what remains of the order t in its place
   module _ (t : Terms) (F : List Terms → List Terms)
       (here : (ts : List Terms) → eqb t.number n ≡ true → remaining (lone_fill n q ∷ []) t ++ ts ≡ F (t ∷ ts))
       (there : (x : Terms) (ts : List Terms) → eqb x.number n ≡ false → x ∷ F ts ≡ F (x ∷ ts)) where
-    off : (ts : List Terms) → distinct ts ≡ true → All (λ x. in_range x ≡ true) ts → found n ts ≡ Some t → after_fills (lone_fill n q ∷ []) ts ≡ F ts
+    off : (ts : List Terms) → distinct ts ≡ true → AllByRecursion (λ x. in_range x ≡ true) ts → found n ts ≡ Some t → after_fills (lone_fill n q ∷ []) ts ≡ F ts
     off [] d r f = let z : ◌≡◌ {A = ℕ} 0 1 = cc in absurd (omega arith)
     off (x ∷ ts) d r f =
         let p = and_parts _ (distinct ts) d in

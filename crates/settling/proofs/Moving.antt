@@ -4,7 +4,7 @@ use Rattle.std.proofs.ByRecursion.{All-weaker, All-map, all_kept_by}
 use Rattle.std.proofs.lemmas.List.{append-nil, append_assoc}
 use Rattle.std.proofs.lemmas.Bool.{cases_Bool, cases_eq, and_parts, not-true, eq-eqb}
 use Rattle.std.specs.Option.{option_map, option_flatten}
-use Rattle.std.specs.List.{AllByRecursion as All}
+use Rattle.std.specs.List.{AllByRecursion}
 use Rattle.orders.specs.declared.terms.Terms.{Terms}
 use Rattle.book.proofs.Laws.{eqb_flip, not_held_each, held_gone, held_found, distinct_push, distinct_without, found_number, found_gone, found_without, append_again, open_push_here, open_push_elsewhere}
 use Rattle.book.specs.Calls.{append_fault, after_append}
@@ -29,11 +29,11 @@ module _ (q : Quote) where
       ap (λ o. moved_as (option_flatten (option_map (triggered_form q) o)) n (t ∷ ts)) (let f : found n (t ∷ ts) ≡ found n ts = rw e in f)
       ∙ moved_past (stop_at q n ts) t ts n e
 
-  stops_past : (t : Terms) (ts : List Terms) (ns : List ℕ) → All (λ n. eqb t.number n ≡ false) ns → fold (stop_moved q) (t ∷ ts) ns ≡ t ∷ fold (stop_moved q) ts ns
+  stops_past : (t : Terms) (ts : List Terms) (ns : List ℕ) → AllByRecursion (λ n. eqb t.number n ≡ false) ns → fold (stop_moved q) (t ∷ ts) ns ≡ t ∷ fold (stop_moved q) ts ns
   stops_past t ts [] a = refl
   stops_past t ts (n ∷ ns) a = ap (λ l. fold (stop_moved q) l ns) (stop_past t ts n a.0) ∙ stops_past t (stop_moved q ts n) ns a.1
 
-  numbers_apart : (n : ℕ) (ts : List Terms) → held n ts ≡ false → All (λ m. eqb n m ≡ false) (stop_numbers q ts)
+  numbers_apart : (n : ℕ) (ts : List Terms) → held n ts ≡ false → AllByRecursion (λ m. eqb n m ≡ false) (stop_numbers q ts)
   numbers_apart n ts h =
       All-map (λ m. eqb n m ≡ false) (λ t. t.number) (filter (triggered_by q) ts)
       (all_kept_by (triggered_by q) (λ t. eqb n t.number ≡ false) ts (All-weaker _ _ (λ t e. eqb_flip t.number n e) ts (not_held_each n ts h)))

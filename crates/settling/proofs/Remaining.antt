@@ -4,7 +4,7 @@ use Rattle.std.proofs.lemmas.List.{append-nil, append_assoc}
 use Rattle.std.proofs.lemmas.List.Sums.{sum_by-append}
 use Rattle.std.proofs.lemmas.Bool.{cases_Bool, cases_lt, and_parts, and_from, or_parts, not-true, not_from_false, eqb-true, eqb-false, eq-eqb, ne_eqb}
 use Rattle.std.proofs.lemmas.Bool.Decides.{nat_tests}
-use Rattle.std.specs.List.{AllByRecursion as All}
+use Rattle.std.specs.List.{AllByRecursion}
 use Rattle.orders.specs.Ranges.{in_range, with_quantity}
 use Rattle.orders.specs.declared.terms.Terms.{Terms}
 use Rattle.book.proofs.Laws.{found_none}
@@ -58,7 +58,7 @@ module _ (fs : List Fill) (t : Terms) where
       (cases_lt (traded_of t.number fs) t.quantity)
 
 -- nothing is traded
-pub fills_untraded : (fs : List Fill) (ts : List Terms) → All (λ t. traded_of t.number fs ≡ 0) ts → All (λ t. in_range t ≡ true) ts → after_fills fs ts ≡ ts
+pub fills_untraded : (fs : List Fill) (ts : List Terms) → AllByRecursion (λ t. traded_of t.number fs ≡ 0) ts → AllByRecursion (λ t. in_range t ≡ true) ts → after_fills fs ts ≡ ts
 fills_untraded fs [] z r = refl
 fills_untraded fs (t ∷ ts) z r =
     ap (λ l. l ++ after_fills fs ts) (remaining_whole fs t z.0 r.0) ∙ ap (λ l. t ∷ l) (fills_untraded fs ts z.1 r.1)
@@ -111,7 +111,7 @@ module _ (fs : List Fill) where
       let rest = distinct_after ts p.1 in
       ⊎_elim (λ e. rw e rest) (λ e. rw e (and_from _ _ (not_from_false _ (held_after t.number ts (not-true _ p.0))) rest)) (cases_Bool (eqb (rest_of fs t) 0))
 
-  ranged_after : (ts : List Terms) → All (λ t. in_range t ≡ true) ts → All (λ t. in_range t ≡ true) (after_fills fs ts)
+  ranged_after : (ts : List Terms) → AllByRecursion (λ t. in_range t ≡ true) ts → AllByRecursion (λ t. in_range t ≡ true) (after_fills fs ts)
   ranged_after [] r = tt
   ranged_after (t ∷ ts) r =
       let rest = ranged_after ts r.1 in

@@ -1,7 +1,7 @@
 use Rattle.std.proofs.Common.{◌+◌, ◌*◌, ◌^◌, ◌<◌, length, take, drop, sym, refl, ap, ◌∙◌, subst, arith}
 use Rattle.std.proofs.ByRecursion.{All-push}
 use Rattle.std.proofs.lemmas.List.{take_all}
-use Rattle.std.specs.List.{AllByRecursion as All}
+use Rattle.std.specs.List.{AllByRecursion}
 use Rattle.orders.specs.Told.{terms_of}
 use Rattle.book.proofs.Reading.{Stands, stands, past}
 use Rattle.saved_book.specs.Encoding.{four, number_bytes}
@@ -37,7 +37,7 @@ loop-order-preserved g c =
     let s = read g (goal.at.loop-order-preserved g c).In-Some in
     let fits : (terms_of c.in-Some.order).number < 2 ^ 32 = omega arith in (
       wrote_more number_bytes 4 (λ _. refl) 8 ts c.args.out.now c.requires k (8 + 4 * k) t c.to_le_bytes.result c.loop-order.out _ s refl (omega (arith, s.within, c.requires)) c.loop-order.invariant.0 (c.to_le_bytes.ensures ∙ ap (λ u. four u.number) c.terms-number.ensures) c.put.ensures,
-      subst (All (λ t. t.number < 2 ^ 32)) (sym (take_there k ts (drop (k + 1) ts) t s.first)) (All-push (λ t. t.number < 2 ^ 32) (take k ts) t c.loop-order.invariant.1 fits),
+      subst (AllByRecursion (λ t. t.number < 2 ^ 32)) (sym (take_there k ts (drop (k + 1) ts) t s.first)) (All-push (λ t. t.number < 2 ^ 32) (take k ts) t c.loop-order.invariant.1 fits),
     )
 
 pub returns : goal.returns
@@ -45,4 +45,4 @@ returns g c =
     let ts = g.B.Book.orders c.args.book.now in
     let k = c.loop-order.place in
     let all = past ts k c.in_default.ensures.value in
-    record { after = wrote_all number_bytes 4 (λ _. refl) 8 ts c.args.out.now c.requires k c.loop-order.out all c.loop-order.invariant.0; fit = subst (All (λ t. t.number < 2 ^ 32)) (take_all k ts all) c.loop-order.invariant.1 }
+    record { after = wrote_all number_bytes 4 (λ _. refl) 8 ts c.args.out.now c.requires k c.loop-order.out all c.loop-order.invariant.0; fit = subst (AllByRecursion (λ t. t.number < 2 ^ 32)) (take_all k ts all) c.loop-order.invariant.1 }

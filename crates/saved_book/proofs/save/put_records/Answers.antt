@@ -1,7 +1,7 @@
 use Rattle.std.proofs.Common.{◌+◌, ◌*◌, ◌^◌, ◌<◌, length, take, drop, sym, refl, ap, ◌∙◌, subst, arith}
 use Rattle.std.proofs.ByRecursion.{All-push}
 use Rattle.std.proofs.lemmas.List.{take_all}
-use Rattle.std.specs.List.{AllByRecursion as All}
+use Rattle.std.specs.List.{AllByRecursion}
 use Rattle.orders.specs.Told.{terms_of}
 use Rattle.book.proofs.Reading.{Stands, stands, past}
 use Rattle.saved_book.specs.Encoding.{record_bytes}
@@ -40,7 +40,7 @@ loop-order-preserved g c =
     let s = read g (goal.at.loop-order-preserved g c).In-Some in
     let fits : (terms_of c.in-Some.order).participant < 2 ^ 16 = omega arith in (
       wrote_more record_bytes 16 (λ _. refl) c.args.at ts c.args.out.now c.requires k (c.args.at + 16 * k) t c.record_bytes.result c.loop-order.out _ s refl (omega (arith, s.within, c.requires)) c.loop-order.invariant.0 (c.record_bytes.ensures ∙ ap record_bytes c.terms.ensures) c.put.ensures,
-      subst (All (λ t. t.participant < 2 ^ 16)) (sym (take_there k ts (drop (k + 1) ts) t s.first)) (All-push (λ t. t.participant < 2 ^ 16) (take k ts) t c.loop-order.invariant.1 fits),
+      subst (AllByRecursion (λ t. t.participant < 2 ^ 16)) (sym (take_there k ts (drop (k + 1) ts) t s.first)) (All-push (λ t. t.participant < 2 ^ 16) (take k ts) t c.loop-order.invariant.1 fits),
     )
 
 pub returns : goal.returns
@@ -48,4 +48,4 @@ returns g c =
     let ts = g.B.Book.orders c.args.book.now in
     let k = c.loop-order.place in
     let all = past ts k c.in_default.ensures.value in
-    record { after = wrote_all record_bytes 16 (λ _. refl) c.args.at ts c.args.out.now c.requires k c.loop-order.out all c.loop-order.invariant.0; fit = subst (All (λ t. t.participant < 2 ^ 16)) (take_all k ts all) c.loop-order.invariant.1 }
+    record { after = wrote_all record_bytes 16 (λ _. refl) c.args.at ts c.args.out.now c.requires k c.loop-order.out all c.loop-order.invariant.0; fit = subst (AllByRecursion (λ t. t.participant < 2 ^ 16)) (take_all k ts all) c.loop-order.invariant.1 }
