@@ -9,7 +9,7 @@ use Rattle.chain_table.specs.Chains.{walk, linked_through, among, no_row_twice}
 use Rattle.chain_table.specs.Steps.{Led}
 use Rattle.chain_table.specs.Indices.{other, among_parts, once_parts, once_front, once_out, once_sides}
 
--- what `linked-through` tests
+-- what `linked_through` tests
 abbrev pub Linked : (ℕ → ℕ) → (ℕ → ℕ) → ℕ → List ℕ → ℕ → Type 0
 Linked f g a [] b = (f a ≡ b) × (g b ≡ a)
 Linked f g a (x ∷ xs) b = (f a ≡ x) × (g x ≡ a) × Linked f g x xs b
