@@ -1,5 +1,5 @@
 -- What a journal tells.
-use Rattle.std.specs.Prelude.{◌≡◌, ℕ, ◌+◌, ◌≤◌, Bool, true, ◌&&◌, List, [], ◌∷◌, take, drop, vec_items, vec_len, vec_capacity, nat_le, nat_lt}
+use Rattle.std.specs.Prelude.{◌≡◌, ℕ, ◌+◌, ◌-◌, ◌*◌, ◌^◌, ◌≤◌, Bool, true, ◌&&◌, List, [], ◌∷◌, take, drop, min, vec_items, vec_len, vec_capacity, nat_le, nat_lt}
 use Rattle.orders.specs.declared.terms.Terms.{Terms}
 use Rattle.settling.specs.declared.fill.Fill.{Fill}
 use Rattle.locked_stock.specs.declared.receipt.Receipt.{Receipt}
@@ -50,8 +50,15 @@ has_room j =
     && nat_le (vec_len j.fills + 256) (vec_capacity j.fills)
     && nat_le (vec_len j.receipts + 256) (vec_capacity j.receipts)
 
--- an empty journal with room for so many calls, and for whatever the first of them triggers, fills and tells
-pub record EmptyFor (calls : ℕ) (j : Journal) : Type 0 where
+-- the most that each list can get from so many matches and lifts, and from one more, as far as a length goes
+abbrev pub most_listed : ℕ → ℕ
+most_listed endings = min ((endings + 1) * 256) (2 ^ 64 - 1)
+
+-- an empty journal with room for so many calls, for whatever the first of them triggers, fills and tells, and for what so many matches and lifts do
+pub record EmptyFor (calls endings : ℕ) (j : Journal) : Type 0 where
   pub told : told_by j ≡ []
   pub calls_fit : calls ≤ vec_capacity j.notes
   pub first_fits : 1 ≤ calls → has_room j ≡ true
+  pub triggered_fit : most_listed endings ≤ vec_capacity j.triggered
+  pub fills_fit : most_listed endings ≤ vec_capacity j.fills
+  pub receipts_fit : most_listed endings ≤ vec_capacity j.receipts

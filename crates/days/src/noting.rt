@@ -22,7 +22,7 @@ fn extend<T: Copy>(list: &mut Vec<T>, more: &[T])
 impl Journal {
     // An empty journal for so many calls, of which so many end a freeze.
     pub fn new(heap: Global, calls: usize, endings: usize) -> Result<Journal, AllocError>
-        ensures { IfOk result (EmptyFor calls) }
+        ensures { IfOk result (EmptyFor calls endings) }
     {
         let most = endings.saturating_add(1).saturating_mul(MOST);
         Ok(Journal {
