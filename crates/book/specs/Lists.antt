@@ -1,18 +1,16 @@
 -- A book is told by the list of its orders' terms, earliest first.
 use Rattle.std.specs.Prelude.{◌≡◌, ℕ, ◌≤◌, Bool, true, false, cond, not, ◌&&◌, ◌||◌, List, [], ◌∷◌, length, Some, None, Option, ◌==◌}
-use Rattle.std.specs.List.{AllByRecursion}
+use Rattle.std.specs.List.{AllByRecursion, find, list_any}
 use Rattle.orders.specs.Ranges.{in_range, with_quantity}
 use Rattle.orders.specs.declared.terms.Terms.{Terms}
 
 -- some order has the number
 abbrev pub held : ℕ → List Terms → Bool
-held n [] = false
-held n (t ∷ ts) = t.number == n || held n ts
+held n = list_any (λ t. t.number == n)
 
 -- the order of the number, or none
 abbrev pub found : ℕ → List Terms → Option Terms
-found n [] = None
-found n (t ∷ ts) = cond (t.number == n) (Some t) (found n ts)
+found n = find (λ t. t.number == n)
 
 -- the list with the order of the number left out
 abbrev pub without : ℕ → List Terms → List Terms

@@ -11,6 +11,7 @@ use orders::order::Order;
 use orders::refusal::Refusal;
 
 pub mod find;
+pub mod iter;
 pub mod open;
 
 // A book that can be read.

@@ -3,8 +3,9 @@ ghost use Rattle.std.specs.Prelude.{◌≡◌};
 ghost use Rattle.book.specs.Figures.{open_shares, open_figure};
 
 use crate::Book;
+use crate::iter::orders_of;
 
-#[derive(Clone, Copy)]
+#[derive(Clone, Copy, PartialEq, Eq, Debug)]
 pub struct OpenFigure {
     pub orders: usize,
     pub shares: u32,
@@ -13,11 +14,9 @@ pub struct OpenFigure {
 fn open_shares<B: Book>(book: &B) -> u32
     ensures { result ≡ open_shares (B.Book.orders book.now) }
 {
-    let mut place = 0;
     let mut shares = 0;
-    while let Some(order) = book.order_at(place) {
+    for order in orders_of(book) {
         shares += order.terms().quantity;
-        place += 1;
     }
     shares
 }
