@@ -1,5 +1,5 @@
 -- The form of an order: its side and its type.
-use Rattle.std.specs.Prelude.{ℕ, Bool, ◌&&◌, ◌==◌}
+use Rattle.std.specs.Prelude.{ℕ, Bool, ◌&&◌, Some, None, Option, ◌==◌}
 use Rattle.orders.specs.declared.terms.Kind.{Kind}
 use Rattle.orders.specs.declared.terms.Kind.TheVariants as kind
 use Rattle.orders.specs.declared.terms.OrderType.{OrderType}
@@ -13,6 +13,19 @@ type_of kind.Market = Market
 type_of (kind.Limit l) = Limit
 type_of (kind.StopMarket s) = StopMarket
 type_of (kind.StopLimit l s) = StopLimit
+
+-- the limit and the stop limit of a kind, if it has one
+abbrev pub limit_of : Kind → Option ℕ
+limit_of kind.Market = None
+limit_of (kind.Limit l) = Some l
+limit_of (kind.StopMarket s) = None
+limit_of (kind.StopLimit l s) = Some l
+
+abbrev pub stop_of : Kind → Option ℕ
+stop_of kind.Market = None
+stop_of (kind.Limit l) = None
+stop_of (kind.StopMarket s) = Some s
+stop_of (kind.StopLimit l s) = Some s
 
 -- the sides and the types, numbered
 abbrev pub side_code : Side → ℕ

@@ -1,9 +1,11 @@
 pub mod Results
 pub mod Answers
 pub mod Numbers
+pub mod Words
 pub mod Capacities
 pub mod Ticks
 pub mod Ranges
 pub mod Forms
+pub mod Codes
 pub mod Told
 pub mod Checks

@@ -6,7 +6,7 @@ ghost use Rattle.std.specs.Option.{option_map};
 use crate::ranges::is_in_range;
 use crate::terms::Terms;
 
-#[derive(Clone, Copy)]
+#[derive(Clone, Copy, PartialEq, Eq, Debug)]
 pub struct Order {
     pub(crate) terms: Terms,
     ghost ranged: { in_range terms ≡ true },

@@ -1,76 +1,89 @@
 // The refusals, and the number that stands for each.
-ghost use Rattle.std.specs.Prelude.{◌≡◌};
+ghost use Rattle.std.specs.Prelude.{◌≡◌, Some};
 ghost use Rattle.orders.specs.Numbers.{number_of};
+ghost use Rattle.orders.specs.Words.{words_of};
+
+use std::fmt;
 
 #[derive(Clone, Copy, PartialEq, Eq, Debug)]
 pub enum Refusal {
     // the order number or the participant is 0
-    Identity,
+    Identity = 1,
     // the quantity is 0, too large or off the lot
-    Quantity,
+    Quantity = 2,
     // a price is missing, out of range, off the tick, or given to a kind that lacks it
-    Price,
-    NumberHeld,
-    NumberUnknown,
-    OtherParticipant,
+    Price = 3,
+    NumberHeld = 4,
+    NumberUnknown = 5,
+    OtherParticipant = 6,
     // the side or the kind is not that of the order
-    SideOrKind,
-    BookFull,
-    LockedStockFull,
-    RequestListFull,
+    SideOrKind = 7,
+    BookFull = 8,
+    LockedStockFull = 9,
+    RequestListFull = 10,
     // the prices of a matching quote: out of range, off the tick, or the bid not below the ask
-    QuotePrices,
+    QuotePrices = 11,
     // the volumes of a matching quote: too large or off the lot
-    QuoteVolumes,
+    QuoteVolumes = 12,
     // a day line that does not belong to the phase
-    WrongPhase,
+    WrongPhase = 13,
     // the lot or the tick class is out of range
-    Settings,
+    Settings = 14,
     // no store or line has this capacity
-    Capacity,
+    Capacity = 15,
     // fewer fill entries than orders in the book
-    FillEntries,
+    FillEntries = 16,
     // fewer receipt entries than the locked stock has places
-    ReceiptEntries,
+    ReceiptEntries = 17,
     // the text of a day line
-    Text,
+    Text = 18,
     // the count, the record size or the length of a saved book
-    SavedLayout,
+    SavedLayout = 19,
     // a record of a saved book
-    SavedRecord,
+    SavedRecord = 20,
     // the store that is to be loaded is not empty, or too small
-    StoreUnfit,
+    StoreUnfit = 21,
     // the buffer for a saved book is too short
-    BufferShort,
+    BufferShort = 22,
 }
 
 impl Refusal {
     pub fn number(self) -> u8
         ensures { result ≡ number_of self }
     {
-        match self {
-            Refusal::Identity => 1,
-            Refusal::Quantity => 2,
-            Refusal::Price => 3,
-            Refusal::NumberHeld => 4,
-            Refusal::NumberUnknown => 5,
-            Refusal::OtherParticipant => 6,
-            Refusal::SideOrKind => 7,
-            Refusal::BookFull => 8,
-            Refusal::LockedStockFull => 9,
-            Refusal::RequestListFull => 10,
-            Refusal::QuotePrices => 11,
-            Refusal::QuoteVolumes => 12,
-            Refusal::WrongPhase => 13,
-            Refusal::Settings => 14,
-            Refusal::Capacity => 15,
-            Refusal::FillEntries => 16,
-            Refusal::ReceiptEntries => 17,
-            Refusal::Text => 18,
-            Refusal::SavedLayout => 19,
-            Refusal::SavedRecord => 20,
-            Refusal::StoreUnfit => 21,
-            Refusal::BufferShort => 22,
-        }
+        self as u8
+    }
+}
+
+// The refusal in words.
+impl fmt::Display for Refusal {
+    ghost output = { λ r. Some (words_of r) };
+
+    fn fmt<W: fmt::Write>(&self, f: &mut fmt::Formatter<W>) -> fmt::Result {
+        f.write_str(match self {
+            Refusal::Identity => "the order number or the participant is 0",
+            Refusal::Quantity => "the quantity is 0, above 1000000 or off the lot",
+            Refusal::Price =>
+                "a limit or stop limit is out of range, off the tick, missing or not of the kind",
+            Refusal::NumberHeld => "the number is held already",
+            Refusal::NumberUnknown => "the number is unknown",
+            Refusal::OtherParticipant => "the order is another participant's",
+            Refusal::SideOrKind => "the side or the kind differs",
+            Refusal::BookFull => "the book is full",
+            Refusal::LockedStockFull => "the locked stock is full",
+            Refusal::RequestListFull => "the request list is full",
+            Refusal::QuotePrices => "the prices of the quote",
+            Refusal::QuoteVolumes => "the volumes of the quote",
+            Refusal::WrongPhase => "the line does not belong to the phase",
+            Refusal::Settings => "the lot or the tick class is out of range",
+            Refusal::Capacity => "no store or line has this capacity",
+            Refusal::FillEntries => "fewer fill entries than orders",
+            Refusal::ReceiptEntries => "fewer receipt entries than places in the locked stock",
+            Refusal::Text => "the text of the line",
+            Refusal::SavedLayout => "the count, the record size or the length of the saved book",
+            Refusal::SavedRecord => "a record of the saved book",
+            Refusal::StoreUnfit => "the store is not empty or too small",
+            Refusal::BufferShort => "the buffer is too short",
+        })
     }
 }

@@ -5,7 +5,7 @@ ghost use Rattle.orders.specs.Results.{seen};
 
 use crate::refusal::Refusal;
 
-#[derive(Clone, Copy)]
+#[derive(Clone, Copy, PartialEq, Eq, Debug)]
 pub struct Settings {
     pub(crate) lot: u16,
     pub(crate) tick_class: u8,

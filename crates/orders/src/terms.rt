@@ -1,11 +1,30 @@
 // The terms of an order.
 ghost use Rattle.std.specs.Prelude.{◌≡◌};
-ghost use Rattle.orders.specs.Forms.{type_of, same_form};
+ghost use Rattle.orders.specs.Codes.{IsSideOf, IsTypeOf};
+ghost use Rattle.orders.specs.Forms.{type_of, limit_of, stop_of, same_form};
 
 #[derive(Clone, Copy, PartialEq, Eq, Debug)]
 pub enum Side {
     Buy,
     Sell,
+}
+
+// A code that names no side, or no type of an order.
+#[derive(Clone, Copy, PartialEq, Eq, Debug)]
+pub struct UnknownCode(pub u8);
+
+impl TryFrom<u8> for Side {
+    type Error = UnknownCode;
+
+    ghost try_from_gives = { IsSideOf };
+
+    fn try_from(code: u8) -> Result<Side, UnknownCode> {
+        match code {
+            0 => Ok(Side::Buy),
+            1 => Ok(Side::Sell),
+            _ => Err(UnknownCode(code)),
+        }
+    }
 }
 
 // The kind of an order, with just the prices that this kind has.
@@ -26,6 +45,22 @@ pub enum OrderType {
     StopLimit,
 }
 
+impl TryFrom<u8> for OrderType {
+    type Error = UnknownCode;
+
+    ghost try_from_gives = { IsTypeOf };
+
+    fn try_from(code: u8) -> Result<OrderType, UnknownCode> {
+        match code {
+            0 => Ok(OrderType::Market),
+            1 => Ok(OrderType::Limit),
+            2 => Ok(OrderType::StopMarket),
+            3 => Ok(OrderType::StopLimit),
+            _ => Err(UnknownCode(code)),
+        }
+    }
+}
+
 impl Kind {
     pub fn order_type(self) -> OrderType
         ensures { result ≡ type_of self }
@@ -35,6 +70,26 @@ impl Kind {
             Kind::Limit { .. } => OrderType::Limit,
             Kind::StopMarket { .. } => OrderType::StopMarket,
             Kind::StopLimit { .. } => OrderType::StopLimit,
+        }
+    }
+
+    // The limit, if the kind has one.
+    pub fn limit(self) -> Option<u32>
+        ensures { result ≡ limit_of self }
+    {
+        match self {
+            Kind::Limit { limit } | Kind::StopLimit { limit, .. } => Some(limit),
+            Kind::Market | Kind::StopMarket { .. } => None,
+        }
+    }
+
+    // The stop limit, if the kind has one.
+    pub fn stop(self) -> Option<u32>
+        ensures { result ≡ stop_of self }
+    {
+        match self {
+            Kind::StopMarket { stop } | Kind::StopLimit { stop, .. } => Some(stop),
+            Kind::Market | Kind::Limit { .. } => None,
         }
     }
 }

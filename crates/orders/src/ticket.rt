@@ -1,7 +1,7 @@
 // What a member sends for an order. Any numbers may come; a price of 0 is not given.
 use crate::terms::{OrderType, Side};
 
-#[derive(Clone, Copy)]
+#[derive(Clone, Copy, PartialEq, Eq, Debug)]
 pub struct Ticket {
     pub number: u32,
     pub participant: u16,
