@@ -1,5 +1,5 @@
 -- A book is told by the list of its orders' terms, earliest first.
-use Rattle.std.specs.Prelude.{◌≡◌, ℕ, ◌≤◌, Bool, true, false, cond, not, ◌&&◌, ◌||◌, List, [], ◌∷◌, length, Some, None, Option, ◌==◌}
+use Rattle.std.specs.Prelude.{◌≡◌, ℕ, ◌≤◌, Bool, true, cond, not, ◌&&◌, List, [], ◌∷◌, length, Option, ◌==◌}
 use Rattle.std.specs.List.{AllByRecursion, find, list_any}
 use Rattle.orders.specs.Ranges.{in_range, with_quantity}
 use Rattle.orders.specs.declared.terms.Terms.{Terms}

@@ -1,4 +1,4 @@
-use Rattle.std.proofs.Common.{◌+◌, drop, subst, sym, ◌∙◌, ap, arith}
+use Rattle.std.proofs.Common.{drop, subst, sym, ◌∙◌, ap, arith}
 use Rattle.std.specs.Iterator.{YieldsFirstBy}
 use Rattle.std.specs.List.{slice_get}
 use Rattle.std.specs.Prelude.{List}
