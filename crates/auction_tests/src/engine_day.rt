@@ -146,7 +146,7 @@ fn is_left<B: Book>(
     fills: &[Fill],
     receipts: &[Receipt],
 ) -> bool {
-    day.held.len() == waiting
+    day.held.as_ref().map_or(0, |held| held.len()) == waiting
         && &day.fills[0..] == fills
         && &day.receipts[0..] == receipts
         && has_book(book, day.book.as_slice())

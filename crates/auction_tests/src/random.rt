@@ -7,6 +7,7 @@ use orders::refusal::Refusal;
 use orders::terms::{OrderType, Side};
 use orders::ticket::Ticket;
 use pricing::quote::Quote;
+use random::Random;
 use std::alloc::Global;
 use std::process::Abort;
 use std::test::Fail;
@@ -24,170 +25,154 @@ const LOW: u32 = 1_000;
 
 const HIGH: u32 = 999_999_900;
 
-#[derive(Drop)]
-struct Random {
-    state: u32,
+fn one_in(random: &mut Random, many: u32) -> bool {
+    random.below(many) == 0
 }
 
-impl Random {
-    // A number below `limit`, or 0.
-    fn below(&mut self, limit: u32) -> u32 {
-        self.state = self
-            .state
-            .wrapping_mul(1_664_525)
-            .wrapping_add(1_013_904_223);
-        (self.state >> 8).checked_rem(limit).unwrap_or(0)
+fn market(random: &mut Random) -> Market {
+    let (lot, class, tick) = GRIDS[(random.below(4) % 4) as usize];
+    Market {
+        lot,
+        class,
+        tick,
+        base: if one_in(random, 8) { HIGH } else { LOW },
+        book_room: BOOKS[(random.below(4) % 4) as usize],
+        stock_room: STOCKS[(random.below(4) % 4) as usize],
     }
+}
 
-    fn one_in(&mut self, many: u32) -> bool {
-        self.below(many) == 0
+fn price(random: &mut Random, market: Market) -> u32 {
+    let steps = random.below(9);
+    let right = market
+        .base
+        .saturating_add(market.tick.saturating_mul(steps));
+    if !one_in(random, 40) {
+        return right;
     }
-
-    fn market(&mut self) -> Market {
-        let (lot, class, tick) = GRIDS[(self.below(4) % 4) as usize];
-        Market {
-            lot,
-            class,
-            tick,
-            base: if self.one_in(8) { HIGH } else { LOW },
-            book_room: BOOKS[(self.below(4) % 4) as usize],
-            stock_room: STOCKS[(self.below(4) % 4) as usize],
-        }
+    match random.below(4) {
+        0 => 0,
+        1 => right.saturating_add(1),
+        2 => 1_000_000_000,
+        _ => 1_000_000_050,
     }
+}
 
-    fn price(&mut self, market: Market) -> u32 {
-        let steps = self.below(9);
-        let right = market
-            .base
-            .saturating_add(market.tick.saturating_mul(steps));
-        if !self.one_in(40) {
-            return right;
-        }
-        match self.below(4) {
-            0 => 0,
-            1 => right.saturating_add(1),
-            2 => 1_000_000_000,
-            _ => 1_000_000_050,
-        }
+fn quantity(random: &mut Random, market: Market) -> u32 {
+    let lot = u32::from(market.lot);
+    let right = lot.saturating_mul(random.up_to(6));
+    if !one_in(random, 20) {
+        return right;
     }
-
-    fn quantity(&mut self, market: Market) -> u32 {
-        let lot = u32::from(market.lot);
-        let right = lot.saturating_mul(self.below(6).saturating_add(1));
-        if !self.one_in(20) {
-            return right;
-        }
-        match self.below(4) {
-            0 => 0,
-            1 => right.saturating_add(1),
-            2 => 1_000_000,
-            _ => 1_000_000u32.saturating_add(lot),
-        }
+    match random.below(4) {
+        0 => 0,
+        1 => right.saturating_add(1),
+        2 => 1_000_000,
+        _ => 1_000_000u32.saturating_add(lot),
     }
+}
 
-    // One of few order numbers.
-    fn number(&mut self) -> u32 {
-        if self.one_in(40) {
-            0
-        } else {
-            self.below(9).saturating_add(1)
-        }
+// One of few order numbers.
+fn number(random: &mut Random) -> u32 {
+    if one_in(random, 40) {
+        0
+    } else {
+        random.up_to(9)
     }
+}
 
-    // An order number has mostly the same participant.
-    fn participant(&mut self, number: u32) -> u16 {
-        if self.one_in(40) {
-            return 0;
-        }
-        if number % 2 == 0 || self.one_in(8) {
-            7
-        } else {
-            8
-        }
+// An order number has mostly the same participant.
+fn participant(random: &mut Random, number: u32) -> u16 {
+    if one_in(random, 40) {
+        return 0;
     }
-
-    // A price if the order type has one, and now and then the other way round.
-    fn given(&mut self, market: Market, is_wanted: bool) -> u32 {
-        let is_wrong = self.one_in(40);
-        if is_wanted != is_wrong {
-            self.price(market)
-        } else {
-            0
-        }
+    if number % 2 == 0 || one_in(random, 8) {
+        7
+    } else {
+        8
     }
+}
 
-    fn ticket(&mut self, market: Market) -> Ticket {
-        let number = self.number();
-        let is_buy = (number / 2) % 2 == 0;
-        let is_other = self.one_in(6);
-        let side = if is_buy != is_other {
-            Side::Buy
-        } else {
-            Side::Sell
-        };
-        let (order_type, has_limit, has_stop) = match self.below(8) {
-            0 => (OrderType::Market, false, false),
-            1 => (OrderType::StopMarket, false, true),
-            2 => (OrderType::StopLimit, true, true),
-            _ => (OrderType::Limit, true, false),
-        };
-        Ticket {
-            number,
-            participant: self.participant(number),
-            side,
-            order_type,
-            quantity: self.quantity(market),
-            limit: self.given(market, has_limit),
-            stop: self.given(market, has_stop),
-        }
+// A price if the order type has one, and now and then the other way round.
+fn given(random: &mut Random, market: Market, is_wanted: bool) -> u32 {
+    let is_wrong = one_in(random, 40);
+    if is_wanted != is_wrong {
+        price(random, market)
+    } else {
+        0
     }
+}
 
-    fn volume(&mut self, market: Market) -> u32 {
-        if self.one_in(2) {
-            0
-        } else {
-            self.quantity(market)
-        }
+fn ticket(random: &mut Random, market: Market) -> Ticket {
+    let number = number(random);
+    let is_buy = (number / 2) % 2 == 0;
+    let is_other = one_in(random, 6);
+    let side = if is_buy != is_other {
+        Side::Buy
+    } else {
+        Side::Sell
+    };
+    let (order_type, has_limit, has_stop) = match random.below(8) {
+        0 => (OrderType::Market, false, false),
+        1 => (OrderType::StopMarket, false, true),
+        2 => (OrderType::StopLimit, true, true),
+        _ => (OrderType::Limit, true, false),
+    };
+    Ticket {
+        number,
+        participant: participant(random, number),
+        side,
+        order_type,
+        quantity: quantity(random, market),
+        limit: given(random, market, has_limit),
+        stop: given(random, market, has_stop),
     }
+}
 
-    fn quote(&mut self, market: Market) -> Quote {
-        let bid = self.price(market);
-        let width = market.tick.saturating_mul(self.below(7));
-        Quote {
-            bid,
-            ask: bid.saturating_add(width),
-            bid_volume: self.volume(market),
-            ask_volume: self.volume(market),
-        }
+fn volume(random: &mut Random, market: Market) -> u32 {
+    if one_in(random, 2) {
+        0
+    } else {
+        quantity(random, market)
     }
+}
 
-    // Mostly enough entries.
-    fn entries(&mut self) -> usize {
-        let few = self.below(6) as usize;
-        if self.one_in(8) { few } else { 64 }
+fn quote(random: &mut Random, market: Market) -> Quote {
+    let bid = price(random, market);
+    let width = market.tick.saturating_mul(random.below(7));
+    Quote {
+        bid,
+        ask: bid.saturating_add(width),
+        bid_volume: volume(random, market),
+        ask_volume: volume(random, market),
     }
+}
 
-    fn call(&mut self, market: Market) -> Call {
-        match self.below(18) {
-            0 | 1 => Call::Send(Instruction::Change(self.ticket(market))),
-            2 | 3 => {
-                let number = self.number();
-                Call::Send(Instruction::Delete {
-                    number,
-                    participant: self.participant(number),
-                })
-            }
-            4 | 5 | 6 => Call::Freeze,
-            7 | 8 | 9 | 10 => Call::Match {
-                quote: self.quote(market),
-                fills: self.entries(),
-                receipts: self.entries(),
-            },
-            11 => Call::Lift {
-                receipts: self.entries(),
-            },
-            _ => Call::Send(Instruction::Enter(self.ticket(market))),
+// Mostly enough entries.
+fn entries(random: &mut Random) -> usize {
+    let few = random.below(6) as usize;
+    if one_in(random, 8) { few } else { 64 }
+}
+
+fn call(random: &mut Random, market: Market) -> Call {
+    match random.below(18) {
+        0 | 1 => Call::Send(Instruction::Change(ticket(random, market))),
+        2 | 3 => {
+            let number = number(random);
+            Call::Send(Instruction::Delete {
+                number,
+                participant: participant(random, number),
+            })
         }
+        4 | 5 | 6 => Call::Freeze,
+        7 | 8 | 9 | 10 => Call::Match {
+            quote: quote(random, market),
+            fills: entries(random),
+            receipts: entries(random),
+        },
+        11 => Call::Lift {
+            receipts: entries(random),
+        },
+        _ => Call::Send(Instruction::Enter(ticket(random, market))),
     }
 }
 
@@ -220,10 +205,10 @@ fn one_day(
     random: &mut Random,
     reached: &mut Reached,
 ) -> Result<(), Fail> {
-    let market = random.market();
+    let market = market(random);
     let mut calls = Vec::new(heap);
     for _ in 0..40 {
-        let _ = calls.push(random.call(market));
+        let _ = calls.push(call(random, market));
     }
     let _ = calls.push(Call::Lift { receipts: 64 });
     let day = checked_day(rt, heap, market, calls.as_slice())?;
@@ -234,7 +219,7 @@ fn one_day(
 // Each refusal comes up that an instruction, a match or a lift can get: 1 to 9, 11, 12, 16 and 17.
 #[test]
 fn days_are_as_reckoned(rt: HostRuntime) -> Result<(), Fail> {
-    let mut random = Random { state: 17 };
+    let mut random = Random::new(17);
     let mut reached = Reached {
         refusals: Vec::new(rt.alloc()),
         prices: 0,

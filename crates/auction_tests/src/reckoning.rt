@@ -77,7 +77,7 @@ fn fault(market: Market, instruction: Instruction<Ticket>) -> Option<Refusal> {
 }
 
 fn given(price: u32) -> Option<u32> {
-    if price == 0 { None } else { Some(price) }
+    (price != 0).then_some(price)
 }
 
 fn resting(ticket: Ticket) -> Resting {
@@ -92,12 +92,7 @@ fn resting(ticket: Ticket) -> Resting {
 }
 
 fn find(book: &[Resting], number: u32) -> Option<Resting> {
-    for order in book {
-        if order.number == number {
-            return Some(*order);
-        }
-    }
-    None
+    book.iter().find(|order| order.number == number).copied()
 }
 
 fn own(book: &[Resting], number: u32, participant: u16) -> Result<Resting, Refusal> {
@@ -201,13 +196,9 @@ fn left_over(heap: Global, orders: &[Resting]) -> Vec<Resting> {
 }
 
 fn count_stops(book: &[Resting], quote: Quote) -> usize {
-    let mut stops = 0usize;
-    for order in book {
-        if order.is_triggered(quote) {
-            stops = stops.saturating_add(1);
-        }
-    }
-    stops
+    book.iter()
+        .filter(|order| order.is_triggered(quote))
+        .count()
 }
 
 // A day so far, with all answers that it gave.
@@ -216,8 +207,8 @@ pub(crate) struct Reckoning {
     heap: Global,
     market: Market,
     pub(crate) book: Vec<Resting>,
-    is_frozen: bool,
-    pub(crate) held: Vec<Instruction<Ticket>>,
+    // what waits in a freeze; none outside of one
+    pub(crate) held: Option<Vec<Instruction<Ticket>>>,
     pub(crate) fills: [Fill; ENTRIES],
     pub(crate) receipts: [Receipt; ENTRIES],
     pub(crate) answers: Vec<Answer>,
@@ -229,8 +220,7 @@ impl Reckoning {
             heap,
             market,
             book: Vec::new(heap),
-            is_frozen: false,
-            held: Vec::new(heap),
+            held: None,
             fills: [NO_FILL; ENTRIES],
             receipts: [NO_RECEIPT; ENTRIES],
             answers: Vec::new(heap),
@@ -249,11 +239,11 @@ impl Reckoning {
         if let Some(refusal) = fault(self.market, instruction) {
             return Answer::Refused(refusal);
         }
-        if self.is_frozen {
-            if self.held.len() >= self.market.stock_room {
+        if let Some(held) = &mut self.held {
+            if held.len() >= self.market.stock_room {
                 return Answer::Refused(Refusal::LockedStockFull);
             }
-            let _ = self.held.push(instruction);
+            let _ = held.push(instruction);
             return Answer::Held;
         }
         match self.carry_out(instruction) {
@@ -264,7 +254,7 @@ impl Reckoning {
 
     // The freeze ends: what is held is carried out, oldest first, with a receipt each.
     fn release(&mut self) -> usize {
-        let held = std::mem::replace(&mut self.held, Vec::new(self.heap));
+        let held = self.held.take().unwrap_or(Vec::new(self.heap));
         for (place, instruction) in held.iter().enumerate() {
             let answer = self.carry_out(*instruction);
             let receipt = Receipt {
@@ -273,7 +263,6 @@ impl Reckoning {
             };
             put_at(&mut self.receipts, place, receipt);
         }
-        self.is_frozen = false;
         held.len()
     }
 
@@ -350,9 +339,9 @@ impl Reckoning {
     pub(crate) fn answer(&mut self, call: Call) -> Answer {
         let answer = match call {
             Call::Send(instruction) => self.send(instruction),
-            _ if self.is_frozen => self.end(call),
+            _ if self.held.is_some() => self.end(call),
             Call::Freeze => {
-                self.is_frozen = true;
+                self.held = Some(Vec::new(self.heap));
                 Answer::Frozen
             }
             _ => Answer::NoCall,

@@ -4,3 +4,4 @@ pub mod Grammar
 pub mod Texts
 pub mod Laws
 pub mod Steps
+pub mod Passing

@@ -4,7 +4,7 @@ ghost use Rattle.day_lines.specs.Faults.{fault_at, place_of};
 ghost use Rattle.day_lines.specs.declared.fault.DayFault.TheVariants.{Line};
 ghost use Rattle.day_lines.specs.declared.fault.LineFault.TheVariants.{Field};
 
-#[derive(Clone, Copy)]
+#[derive(Clone, Copy, PartialEq, Eq, Debug)]
 pub enum Cause {
     // the line ends too early
     Missing,
@@ -14,13 +14,13 @@ pub enum Cause {
     TooLarge,
 }
 
-#[derive(Clone, Copy)]
+#[derive(Clone, Copy, PartialEq, Eq, Debug)]
 pub struct FieldFault {
     pub cause: Cause,
     pub place: usize,
 }
 
-#[derive(Clone, Copy)]
+#[derive(Clone, Copy, PartialEq, Eq, Debug)]
 pub enum LineFault {
     Field(FieldFault),
     // no line begins with this letter
@@ -29,7 +29,7 @@ pub enum LineFault {
     Longer { place: usize },
 }
 
-#[derive(Clone, Copy)]
+#[derive(Clone, Copy, PartialEq, Eq, Debug)]
 pub enum DayFault {
     Line(LineFault),
     // the line is well formed, and does not belong where it stands

@@ -21,11 +21,7 @@ fn digits_in_front(text: &[u8]) -> usize
     ensures within { result ≤ length text.now }
     ensures count { result ≡ prefix_len is_ascii_digit text.now }
 {
-    let mut n = 0;
-    while n < text.len() && text[n].is_ascii_digit() {
-        n += 1;
-    }
-    n
+    text.iter().take_while(|b| b.is_ascii_digit()).count()
 }
 
 // The number that digits write.

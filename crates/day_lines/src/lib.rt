@@ -6,5 +6,6 @@ pub mod fault;
 mod field;
 mod grammar;
 pub mod line;
+mod passing;
 pub mod reading;
 pub mod stage;

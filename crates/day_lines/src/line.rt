@@ -2,7 +2,7 @@
 use orders::instruction::Instruction;
 use orders::ticket::Ticket;
 
-#[derive(Clone, Copy)]
+#[derive(Clone, Copy, PartialEq, Eq, Debug)]
 pub enum Line {
     Settings { lot: u16, tick_class: u32 },
     Instruction(Instruction<Ticket>),

@@ -14,7 +14,7 @@ pub fn read_line(stage: Stage, line: &[u8]) -> Result<Line, DayFault>
     ensures placed { Placed line.now result }
     ensures read_back { ReadsBack }
 {
-    stage.read(line)
+    stage.place(line)
 }
 
 // The line without the newline that ends it, if one does.

@@ -1,13 +1,12 @@
 // Where in a day a line stands.
 ghost use Rattle.std.specs.Prelude.{◌≡◌};
 ghost use Rattle.day_lines.specs.Grammar.{admitted, day_line};
-ghost use Rattle.day_lines.specs.Laws.{Placed, ReadsBack};
 
 use crate::fault::DayFault;
 use crate::grammar::read_text;
 use crate::line::Line;
 
-#[derive(Clone, Copy)]
+#[derive(Clone, Copy, PartialEq, Eq, Debug)]
 pub enum Stage {
     // the first line
     Opening,
@@ -26,7 +25,7 @@ impl Stage {
     }
 
     // What a line at this stage says; that it is out of place is told only once its text is right.
-    fn place(self, line: &[u8]) -> Result<Line, DayFault>
+    pub(crate) fn place(self, line: &[u8]) -> Result<Line, DayFault>
         ensures { result ≡ day_line self line.now }
     {
         let said = read_text(line)?;
@@ -35,14 +34,5 @@ impl Stage {
         } else {
             Err(DayFault::WrongPhase)
         }
-    }
-
-    // The same, with what holds of every reading.
-    pub(crate) fn read(self, line: &[u8]) -> Result<Line, DayFault>
-        ensures value { result ≡ day_line self line.now }
-        ensures placed { Placed line.now result }
-        ensures read_back { ReadsBack }
-    {
-        self.place(line)
     }
 }

@@ -55,16 +55,8 @@ fn oldest_first(rt: HostRuntime) -> Result<(), Fail> {
     };
     enter(&mut list, settings, sell)?;
     enter(&mut list, settings, request(8, 20))?;
-    let Some(first) = list.take() else {
-        return Err(Fail::new("none waits"));
-    };
-    assert_eq!(rt; first.participant, 7);
-    assert_eq!(rt; first.quantity, 30);
-    assert!(rt; matches!(first.side, Some(Side::Sell)));
-    let Some(second) = list.take() else {
-        return Err(Fail::new("one waits"));
-    };
-    assert_eq!(rt; second.participant, 8);
-    assert!(rt; list.take().is_none());
+    assert_eq!(rt; list.take(), Some(sell));
+    assert_eq!(rt; list.take(), Some(request(8, 20)));
+    assert_eq!(rt; list.take(), None);
     Ok(())
 }

@@ -11,8 +11,8 @@ const TICKS: [u32; 18] = [
 
 #[test]
 fn tick_of_every_class(rt: HostRuntime) -> Result<(), Fail> {
-    for class in 0..18 {
-        assert_eq!(rt; Settings::new(1, class)?.tick(), TICKS[class as usize]);
+    for (class, tick) in (0..).zip(TICKS) {
+        assert_eq!(rt; Settings::new(1, class)?.tick(), tick);
     }
     Ok(())
 }

@@ -1,6 +1,6 @@
 // The row table as a store.
 use book::find::find;
-use book::open::open_figure;
+use book::open::{OpenFigure, open_figure};
 use book::{Book, Store};
 use orders::order::Order;
 use orders::refusal::Refusal;
@@ -8,19 +8,14 @@ use orders::terms::{Kind, Side, Terms};
 use row_table::table::RowTable;
 use std::process::Abort;
 use std::test::*;
+use test_orders::terms;
 
 fn order(number: u32, quantity: u32) -> Result<Order, Fail> {
-    let terms = Terms {
-        number,
-        participant: 7,
-        side: Side::Sell,
-        kind: Kind::Limit { limit: 3 },
-        quantity,
+    let kind = Kind::Limit { limit: 3 };
+    let Some(order) = Order::new(terms(number, Side::Sell, kind, quantity)) else {
+        return Err(Fail::new("out of range"));
     };
-    match Order::new(terms) {
-        Some(order) => Ok(order),
-        None => Err(Fail::new("out of range")),
-    }
+    Ok(order)
 }
 
 // The book holds these numbers with these open quantities, in this sequence.
@@ -139,9 +134,11 @@ fn full_at_256(rt: HostRuntime) -> Result<(), Fail> {
         table.append(order(number, 1_000_000)?)?;
     }
     assert_eq!(rt; table.append(order(257, 1)?).err(), Some(Refusal::BookFull));
-    let figure = open_figure(&table);
-    assert_eq!(rt; figure.orders, 256);
-    assert_eq!(rt; figure.shares, 256_000_000);
+    let expected = OpenFigure {
+        orders: 256,
+        shares: 256_000_000,
+    };
+    assert_eq!(rt; open_figure(&table), expected);
     assert!(rt; find(&table, 256).is_some());
     assert!(rt; find(&table, 257).is_none());
     Ok(())

@@ -1,5 +1,5 @@
 // Fills settled in a book of three orders, sensible ones and others.
-use crate::lists::{check_holds, enter, terms};
+use crate::lists::{check_holds, enter};
 use book::Store;
 use chain_table::table::ChainTable;
 use orders::terms::{Kind, Side, Terms};
@@ -9,6 +9,7 @@ use settling::settle::settle;
 use std::alloc::Global;
 use std::process::Abort;
 use std::test::Fail;
+use test_orders::terms;
 
 fn fill(buyer: u32, seller: u32, quantity: u32) -> Fill {
     Fill {

@@ -1,19 +1,9 @@
-// What the tests share: terms, a store filled with orders, and what a book holds.
+// What the tests share: a store filled with orders, and what a book holds.
 use book::{Book, Store};
 use orders::order::Order;
-use orders::terms::{Kind, Side, Terms};
+use orders::terms::Terms;
 use std::process::Abort;
 use std::test::Fail;
-
-pub(crate) fn terms(number: u32, side: Side, kind: Kind, quantity: u32) -> Terms {
-    Terms {
-        number,
-        participant: 7,
-        side,
-        kind,
-        quantity,
-    }
-}
 
 pub(crate) fn enter<S: Store>(store: &mut S, orders: &[Terms]) -> Result<(), Fail> {
     for terms in orders {

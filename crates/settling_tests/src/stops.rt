@@ -1,5 +1,5 @@
 // Stops triggered in stores that are full.
-use crate::lists::{check_holds, enter, terms};
+use crate::lists::{check_holds, enter};
 use book::Store;
 use chain_table::table::ChainTable;
 use orders::terms::{Kind, Side};
@@ -8,6 +8,7 @@ use row_table::table::RowTable;
 use settling::stops::trigger_stops;
 use std::process::Abort;
 use std::test::Fail;
+use test_orders::terms;
 
 // Orders 2, 3 and 6 trigger; 4 and 5 miss the bid and the ask by one.
 fn triggers_three<S: Store>(rt: &impl Abort, store: &mut S) -> Result<(), Fail> {

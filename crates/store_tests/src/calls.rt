@@ -1,12 +1,14 @@
 // Random calls of two stores.
-use crate::lists::{Random, check_same, told};
+use crate::lists::check_same;
 use book::{Book, Store};
 use chain_table::table::ChainTable;
 use orders::order::Order;
-use orders::terms::{Kind, Side, Terms};
+use orders::terms::{Kind, Side};
+use random::Random;
 use row_table::table::RowTable;
 use std::process::Abort;
 use std::test::Fail;
+use test_orders::terms;
 
 fn append<A: Store, B: Store>(
     rt: &impl Abort,
@@ -15,14 +17,7 @@ fn append<A: Store, B: Store>(
     number: u32,
     quantity: u32,
 ) -> Result<(), Fail> {
-    let terms = Terms {
-        number,
-        participant: 7,
-        side: Side::Buy,
-        kind: Kind::Market,
-        quantity,
-    };
-    let Some(order) = Order::new(terms) else {
+    let Some(order) = Order::new(terms(number, Side::Buy, Kind::Market, quantity)) else {
         return Err(Fail::new("out of range"));
     };
     assert_eq!(rt; a.append(order), b.append(order));
@@ -44,10 +39,10 @@ fn same_answers<A: Store, B: Store>(
         let quantity = random.up_to(9);
         match random.below(8) {
             0 => assert_eq!(rt; a.lower(number, quantity), b.lower(number, quantity)),
-            1 => assert_eq!(rt; told(a.take_out(number)), told(b.take_out(number))),
+            1 => assert_eq!(rt; a.take_out(number), b.take_out(number)),
             2 => append(rt, a, b, number, quantity)?,
             _ if filling => append(rt, a, b, number, quantity)?,
-            _ => assert_eq!(rt; told(a.take_out(number)), told(b.take_out(number))),
+            _ => assert_eq!(rt; a.take_out(number), b.take_out(number)),
         }
         if call % 40 == 0 {
             check_same(rt, a, b);
@@ -81,11 +76,11 @@ fn refilled<A: Store, B: Store>(rt: &impl Abort, a: &mut A, b: &mut B) -> Result
                 1 => 257 - step,
                 _ => step * 100 % 257 + 1,
             };
-            assert_eq!(rt; told(a.take_out(number)), told(b.take_out(number)));
+            assert_eq!(rt; a.take_out(number), b.take_out(number));
         }
         check_same(rt, a, b);
         for number in 1..258 {
-            assert_eq!(rt; told(a.take_out(number)), told(b.take_out(number)));
+            assert_eq!(rt; a.take_out(number), b.take_out(number));
         }
         assert_eq!(rt; a.count(), 0);
         assert_eq!(rt; b.count(), 0);

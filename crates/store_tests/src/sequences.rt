@@ -1,11 +1,12 @@
 // Random instructions of pre-call over two stores.
-use crate::lists::{Random, check_same};
+use crate::lists::check_same;
 use book::Store;
 use chain_table::table::ChainTable;
 use engine::pre_call::PreCall;
 use orders::settings::Settings;
 use orders::terms::{OrderType, Side};
 use orders::ticket::Ticket;
+use random::Random;
 use row_table::table::RowTable;
 use std::process::Abort;
 use std::test::Fail;

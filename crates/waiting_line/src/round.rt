@@ -1,47 +1,21 @@
 // How the slots are used round and round.
 ghost use Rattle.std.specs.Prelude.{◌≡◌, ◌<◌, ◌≤◌, length};
-ghost use Rattle.std.specs.List.{slice_get};
 ghost use Rattle.waiting_line.specs.Lines.{room_of, waiting, slot_at};
 ghost use Rattle.waiting_line.specs.Steps.{Pushed, Advanced};
 
 use crate::line::WaitingLine;
-use orders::capacity::MOST;
 
 impl<'a, T: Copy> WaitingLine<'a, T> {
-    pub(crate) fn counted(&self) -> usize
-        ensures value { result ≡ length (waiting self.now) }
-        ensures within { result ≤ room_of self.now.slots.now }
-    {
-        self.count
-    }
-
-    pub(crate) fn room(&self) -> usize
-        ensures { result ≡ room_of self.now.slots.now }
-    {
-        self.slots.len().min(MOST)
-    }
-
     // The slot that is `behind` the first.
-    fn slot(&self, behind: usize) -> usize
+    pub(crate) fn slot(&self, behind: usize) -> usize
         requires some { 0 < room_of self.now.slots.now }
         requires near { behind ≤ room_of self.now.slots.now }
         ensures value { result ≡ slot_at self.now behind }
         ensures within { result < length self.now.slots.now }
     {
-        let room = self.room();
+        let room = self.capacity();
         let slot = self.first + behind;
         if slot < room { slot } else { slot - room }
-    }
-
-    pub(crate) fn read(&self, place: usize) -> Option<T>
-        ensures { result ≡ slice_get (waiting self.now) place }
-    {
-        if place >= self.count {
-            return None;
-        }
-        let slot = self.slot(place);
-        let slots = &*self.slots;
-        Some(slots[slot])
     }
 
     pub(crate) fn push(&mut self, record: T)

@@ -1,6 +1,6 @@
 use Rattle.std.proofs.Common.{sym, arith}
 use Rattle.waiting_line.proofs.Rounds.{length_waiting}
-use Rattle.waiting_line.proofs.line.WaitingLine.counted.Goals as goal
+use Rattle.waiting_line.proofs.line.WaitingLine.len.Goals as goal
 
 pub returns : goal.returns
 returns g c =

@@ -2,7 +2,7 @@ use Rattle.std.proofs.Common.{get_or, sym, ap, ◌∙◌, arith}
 use Rattle.std.proofs.lemmas.Option.{slice_get_past}
 use Rattle.waiting_line.specs.Lines.{waiting}
 use Rattle.waiting_line.proofs.Rounds.{length_waiting, waiting_at}
-use Rattle.waiting_line.proofs.line.WaitingLine.read.Goals as goal
+use Rattle.waiting_line.proofs.line.WaitingLine.at.Goals as goal
 
 pub returns-then-place-self : goal.returns-then-place-self
 returns-then-place-self g c =
