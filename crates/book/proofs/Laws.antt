@@ -133,7 +133,7 @@ not_held_each n (x ∷ ts) h = let p = or_parts (eqb x.number n) (held n ts) h i
 
 -- an order that is found has the number
 pub found_number : (n : ℕ) (ts : List Terms) (t : Terms) → found n ts ≡ Some t → t.number ≡ n
-found_number n [] t h = let z : ◌≡◌ {A = ℕ} 0 1 = cc in absurd (omega arith)
+found_number n [] t h = cc
 found_number n (x ∷ ts) t h =
     ⊎_elim (λ e. let k = rw e at h in let same : x ≡ t = cc in ap (λ y. y.number) (sym same) ∙ eqb-true x.number n e)
     (λ e. found_number n ts t (rw e at h)) (cases_Bool (eqb x.number n))

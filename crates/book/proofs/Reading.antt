@@ -14,7 +14,7 @@ pub record Stands {X : Type 0} (xs : List X) (i : ℕ) (x : X) : Type 0 where
   pub first : drop i xs ≡ x ∷ drop (i + 1) xs
 
 pub stands : {X : Type 0} (xs : List X) (i : ℕ) (x : X) → Some x ≡ slice_get xs i → Stands xs i x
-stands [] i x e = let z : ◌≡◌ {A = ℕ} 0 1 = cc in absurd (omega arith)
+stands [] i x e = cc
 stands (y ∷ xs) zero x e = record { within = omega arith; first = cc }
 stands (y ∷ xs) (suc i) x e =
     let s = stands xs i x e in
@@ -23,7 +23,7 @@ stands (y ∷ xs) (suc i) x e =
 -- nothing stands past the end
 pub past : {X : Type 0} (xs : List X) (i : ℕ) → None ≡ slice_get xs i → length xs ≤ i
 past [] i e = omega arith
-past (x ∷ xs) zero e = let z : ◌≡◌ {A = ℕ} 0 1 = cc in omega arith
+past (x ∷ xs) zero e = cc
 past (x ∷ xs) (suc i) e = omega (arith, past xs i e)
 
 -- one step of a walk: the order at the place i is the first of those left

@@ -1,5 +1,5 @@
 -- What a change does once the old order is found to be the participant's own.
-use Rattle.std.proofs.Common.{◌≡◌, ℕ, ◌≤◌, true, false, eqb, List, length, Some, None, Ok, Err, Option, sym, ap, ◌∙◌, subst, ⊎_elim, arith}
+use Rattle.std.proofs.Common.{◌≡◌, ℕ, ◌≤◌, true, false, eqb, List, length, Some, None, Ok, Err, Option, sym, ap, ◌∙◌, subst, ⊎_elim}
 use Rattle.std.proofs.lemmas.Bool.{cases_Bool}
 use Rattle.orders.specs.Forms.{same_form}
 use Rattle.orders.specs.declared.instruction.Instruction.TheVariants.{Change}
@@ -19,11 +19,11 @@ pub record Own (t : Terms) (ts : List Terms) (u : Terms) : Type 0 where
   pub owner : eqb u.participant t.participant ≡ true
 
 owned_parts : (p : ℕ) (o : Option Terms) (u : Terms) → Ok u ≡ owned p o → (o ≡ Some u) × (eqb u.participant p ≡ true)
-owned_parts p None u e = let z : ◌≡◌ {A = ℕ} 0 1 = cc in absurd (omega arith)
+owned_parts p None u e = cc
 owned_parts p (Some t) u e =
     ⊎_elim
     (λ b. let k = rw b at e in let same : t ≡ u = cc in (ap Some same, subst (λ x. eqb x.participant p ≡ true) same b))
-    (λ b. let k = rw b at e in let z : ◌≡◌ {A = ℕ} 0 1 = cc in absurd (omega arith))
+    (λ b. let k = rw b at e in cc)
     (cases_Bool (eqb t.participant p))
 
 pub own : (t n : Terms) (ts : List Terms) (u : Terms) → n ≡ t → Ok u ≡ owned n.participant (found n.number ts) → Own t ts u
@@ -42,5 +42,5 @@ pub room_again : {t : Terms} {ts : List Terms} {u : Terms} (room : ℕ) → Own 
 room_again {t} {ts} {u} room o s within = append_again room t ts (held_found t.number ts u o.is) s within
 
 pub not_refused : {A : Type 0} (f : Option Refusal) (e : Refusal) (x : A) → f ≡ None → Err e ≡ answered f x → ⊥
-not_refused None e x h k = let z : ◌≡◌ {A = ℕ} 0 1 = cc in omega arith
-not_refused (Some r) e x h k = let z : ◌≡◌ {A = ℕ} 0 1 = cc in omega arith
+not_refused None e x h k = cc
+not_refused (Some r) e x h k = cc

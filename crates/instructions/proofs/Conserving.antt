@@ -16,7 +16,7 @@ use Rattle.instructions.specs.declared.effect.Effect.{Effect}
 
 pub not_held : (room : ℕ) (t : Terms) (ts : List Terms) → append_fault room t ts ≡ None → held t.number ts ≡ false
 not_held room t ts f =
-    ⊎_elim (λ h. let k = rw h at f in let z : ◌≡◌ {A = ℕ} 0 1 = cc in absurd (omega arith)) (λ h. h) (cases_Bool (held t.number ts))
+    ⊎_elim (λ h. let k = rw h at f in cc) (λ h. h) (cases_Bool (held t.number ts))
 
 -- an instruction with no fault
 accepted : (room : ℕ) (i : Instruction Terms) (ts : List Terms) → distinct ts ≡ true → fault room i ts ≡ None → Conserved (about i) (Ok (effect i ts)) ts (changed i ts)

@@ -38,11 +38,11 @@ oldest ws us x e d = ap (map told) (stands ws 0 x e).first ∙ ap (λ l. told x 
 
 pub none_wait : (ws : List (Instruction Order)) → None ≡ slice_get ws 0 → map told ws ≡ []
 none_wait [] e = refl
-none_wait (x ∷ ws) e = let z : ◌≡◌ {A = ℕ} 0 1 = cc in absurd (omega arith)
+none_wait (x ∷ ws) e = cc
 
 pub none_left : (ws us : List (Instruction Order)) → None ≡ slice_get ws 0 → us ≡ drop 1 ws → map told us ≡ []
 none_left [] us e d = ap (map told) d
-none_left (x ∷ ws) us e d = let z : ◌≡◌ {A = ℕ} 0 1 = cc in absurd (omega arith)
+none_left (x ∷ ws) us e d = cc
 
 -- one more receipt
 one_more : (room : ℕ) (all : List (Instruction Terms)) (ts₀ : List Terms) (rs₀ : List Receipt) (k : ℕ) (i : Instruction Terms) (is : List (Instruction Terms)) (ts : List Terms) (rs : List Receipt) →
