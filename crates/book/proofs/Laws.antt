@@ -1,22 +1,20 @@
 -- Laws of the list definitions that every store uses.
-use Rattle.std.proofs.Common.{◌≡◌, ℕ, suc, ◌+◌, ◌≤◌, true, false, cond, not, ◌&&◌, ◌||◌, eqb, List, [], ◌∷◌, ◌++◌, length, drop, Some, None, Option, sym, refl, ap, ◌∙◌, subst, ⊎_elim, arith}
+use Rattle.std.proofs.Common.{◌≡◌, ℕ, suc, ◌+◌, ◌≤◌, true, false, cond, not, ◌&&◌, ◌||◌, eqb, List, [], ◌∷◌, ◌++◌, length, Some, None, Option, sym, refl, ap, ◌∙◌, subst, ⊎_elim, arith}
 use Rattle.std.proofs.lemmas.Bool.{cases_Bool, and_parts, and_from, or_parts, or_from, not-true, not_from_false, or_left, or_right, eqb-true, eq-eqb, ne_eqb, both_ways}
 use Rattle.std.specs.Option.{option_or}
 use Rattle.orders.specs.declared.terms.Terms.{Terms}
 use Rattle.orders.specs.Ranges.{in_range}
 use Rattle.std.proofs.ByRecursion.{All-weaker, sum_by_le}
-use Rattle.std.proofs.lemmas.List.Sums.{sum_by-cons}
+use Rattle.std.proofs.lemmas.List.Folds.{list_any-append, find-append}
 use Rattle.std.proofs.lemmas.Bool.Decides.{nat_tests}
 use Rattle.std.specs.List.{AllByRecursion}
-use Rattle.book.proofs.Reading.{Stands}
 use Rattle.book.specs.Calls.{append_fault}
 use Rattle.book.specs.Figures.{quantity_of, open_shares, open_in, open_of}
 use Rattle.book.specs.Lists.{held, found, without, lowered, distinct, Sound}
 
 -- one more at the end
 pub held_push : (m : ℕ) (ts : List Terms) (t : Terms) → held m ts ≡ false → eqb t.number m ≡ false → held m (ts ++ t ∷ []) ≡ false
-held_push m [] t h e = or_from _ _ e refl
-held_push m (x ∷ ts) t h e = let p = or_parts (eqb x.number m) (held m ts) h in or_from _ _ p.0 (held_push m ts t p.1 e)
+held_push m ts t h e = list_any-append (λ x. eqb x.number m) ts (t ∷ []) ∙ or_from _ _ h (or_from _ _ e refl)
 
 pub eqb_flip : (m n : ℕ) → eqb m n ≡ false → eqb n m ≡ false
 eqb_flip m n h = grind (arith, nat_tests)
@@ -59,22 +57,15 @@ pub length_lowered : (n q : ℕ) (ts : List Terms) → length (lowered n q ts) �
 length_lowered n q [] = refl
 length_lowered n q (t ∷ ts) = ⊎_elim (λ e. rw e) (λ e. rw e (ap suc (length_lowered n q ts))) (cases_Bool (eqb t.number n))
 
--- a search that has come to a place
-pub found_here : {ts : List Terms} {i : ℕ} {t : Terms} (n : ℕ) → Stands ts i t → t.number ≡ n → found n (drop i ts) ≡ Some t
-found_here n s e = ap (found n) s.first ∙ rw (eq-eqb _ _ e)
-
-pub found_next : {ts : List Terms} {i : ℕ} {t : Terms} (n : ℕ) → Stands ts i t → (t.number ≡ n → ⊥) → found n (drop i ts) ≡ found n (drop (i + 1) ts)
-found_next n s e = ap (found n) s.first ∙ rw (ne_eqb _ _ e)
-
 -- what a search tells
 pub held_found : (n : ℕ) (ts : List Terms) (t : Terms) → found n ts ≡ Some t → held n ts ≡ true
-held_found n [] t h = let z : ◌≡◌ {A = ℕ} 0 1 = cc in let y : ⊥ = omega arith in absurd y
+held_found n [] t h = cc
 held_found n (x ∷ ts) t h = ⊎_elim (λ e. or_left _ _ e) (λ e. or_right _ _ (held_found n ts t (rw e at h))) (cases_Bool (eqb x.number n))
 
 pub not_held : (n : ℕ) (ts : List Terms) → found n ts ≡ None → held n ts ≡ false
 not_held n [] h = refl
 not_held n (x ∷ ts) h =
-    ⊎_elim (λ e. let k = rw e at h in let z : ◌≡◌ {A = ℕ} 0 1 = cc in let y : ⊥ = omega arith in absurd y)
+    ⊎_elim (λ e. let k = rw e at h in cc)
     (λ e. or_from _ _ e (not_held n ts (rw e at h))) (cases_Bool (eqb x.number n))
 
 pub without_none : (n : ℕ) (ts : List Terms) → held n ts ≡ false → without n ts ≡ ts
@@ -102,18 +93,13 @@ quantity_most t h = grind (arith, nat_tests)
 pub shares_most : (ts : List Terms) → Sound ts → open_shares ts ≤ 256000000
 shares_most ts s = omega (arith, sum_by_le quantity_of 1000000 ts (All-weaker (λ t. in_range t ≡ true) (λ t. t.quantity ≤ 1000000) quantity_most ts s.ranged), s.few)
 
--- the shares from a place on: those of the order there, and those of the rest
-pub shares_first : {ts : List Terms} {i : ℕ} {t : Terms} → Stands ts i t → open_shares (drop i ts) ≡ t.quantity + open_shares (drop (i + 1) ts)
-shares_first {ts} {i} {t} s = ap open_shares s.first ∙ sum_by-cons quantity_of t (drop (i + 1) ts)
-
 -- what is found after a change of the list
 pub found_none : (n : ℕ) (ts : List Terms) → held n ts ≡ false → found n ts ≡ None
 found_none n [] h = refl
 found_none n (x ∷ ts) h = let p = or_parts (eqb x.number n) (held n ts) h in rw p.0 (found_none n ts p.1)
 
 pub found_push : (n : ℕ) (ts : List Terms) (t : Terms) → found n (ts ++ t ∷ []) ≡ option_or (found n ts) (found n (t ∷ []))
-found_push n [] t = refl
-found_push n (x ∷ ts) t = ⊎_elim (λ e. rw e) (λ e. rw e (found_push n ts t)) (cases_Bool (eqb x.number n))
+found_push n ts t = find-append (λ x. eqb x.number n) ts (t ∷ [])
 
 pub found_without : (n m : ℕ) (ts : List Terms) → (n ≡ m → ⊥) → found n (without m ts) ≡ found n ts
 found_without n m [] h = refl
