@@ -1,5 +1,5 @@
 -- What an instruction does to a book, once its own fields are checked.
-use Rattle.std.specs.Prelude.{ℕ, ◌-◌, cond, List, [], ◌∷◌, ◌++◌, Some, None, Option, Result, ◌==◌}
+use Rattle.std.specs.Prelude.{◌≡◌, ℕ, ◌-◌, cond, List, [], ◌∷◌, ◌++◌, Some, None, Option, Result, ◌==◌}
 use Rattle.orders.specs.Forms.{same_form}
 use Rattle.orders.specs.declared.instruction.Instruction.{Instruction}
 use Rattle.orders.specs.declared.instruction.Instruction.TheVariants.{Enter, Change, Delete}
@@ -45,3 +45,9 @@ carried_answer room i ts = answered (fault room i ts) (effect i ts)
 
 abbrev pub carried_book : ℕ → Instruction Terms → List Terms → List Terms
 carried_book room i ts = left (fault room i ts) ts (changed i ts)
+
+-- an instruction carried out or refused: its answer, the book after it, and the capacity, which stays
+pub record Obeyed (room : ℕ) (i : Instruction Terms) (ts : List Terms) (answer : Result Effect Refusal) (room_after : ℕ) (ts_after : List Terms) : Type 0 where
+  pub value : answer ≡ carried_answer room i ts
+  pub after : ts_after ≡ carried_book room i ts
+  pub same : room_after ≡ room

@@ -3,7 +3,7 @@ ghost use Rattle.std.specs.Prelude.{◌≡◌};
 ghost use Rattle.orders.specs.Told.{terms_of, told};
 ghost use Rattle.orders.specs.declared.instruction.Instruction.TheVariants.{Enter, Change, Delete};
 ghost use Rattle.book.specs.Lists.{found};
-ghost use Rattle.instructions.specs.Effects.{carried_answer, carried_book};
+ghost use Rattle.instructions.specs.Effects.{Obeyed, carried_answer, carried_book};
 ghost use Rattle.instructions.specs.Steps.{owned};
 ghost use Rattle.instructions.specs.Conservation.{Conserved, about};
 
@@ -30,9 +30,7 @@ fn own_order<B: Book>(book: &B, number: u32, participant: u16) -> Result<Terms, 
 }
 
 fn enter<S: Store>(store: &mut S, order: Order) -> Result<Effect, Refusal>
-    ensures value { result ≡ carried_answer (S.Store.room store.old) (Enter (terms_of order)) (S.Book.orders store.old) }
-    ensures after { S.Book.orders store.new ≡ carried_book (S.Store.room store.old) (Enter (terms_of order)) (S.Book.orders store.old) }
-    ensures same { S.Store.room store.new ≡ S.Store.room store.old }
+    ensures { Obeyed (S.Store.room store.old) (Enter (terms_of order)) (S.Book.orders store.old) result (S.Store.room store.new) (S.Book.orders store.new) }
 {
     store.append(order)?;
     Ok(Effect {
@@ -42,9 +40,7 @@ fn enter<S: Store>(store: &mut S, order: Order) -> Result<Effect, Refusal>
 }
 
 fn change<S: Store>(store: &mut S, order: Order) -> Result<Effect, Refusal>
-    ensures value { result ≡ carried_answer (S.Store.room store.old) (Change (terms_of order)) (S.Book.orders store.old) }
-    ensures after { S.Book.orders store.new ≡ carried_book (S.Store.room store.old) (Change (terms_of order)) (S.Book.orders store.old) }
-    ensures same { S.Store.room store.new ≡ S.Store.room store.old }
+    ensures { Obeyed (S.Store.room store.old) (Change (terms_of order)) (S.Book.orders store.old) result (S.Store.room store.new) (S.Book.orders store.new) }
 {
     let new = order.terms();
     let old = own_order(store, new.number, new.participant)?;
@@ -60,9 +56,7 @@ fn change<S: Store>(store: &mut S, order: Order) -> Result<Effect, Refusal>
 }
 
 fn delete<S: Store>(store: &mut S, number: u32, participant: u16) -> Result<Effect, Refusal>
-    ensures value { result ≡ carried_answer (S.Store.room store.old) (Delete number participant) (S.Book.orders store.old) }
-    ensures after { S.Book.orders store.new ≡ carried_book (S.Store.room store.old) (Delete number participant) (S.Book.orders store.old) }
-    ensures same { S.Store.room store.new ≡ S.Store.room store.old }
+    ensures { Obeyed (S.Store.room store.old) (Delete number participant) (S.Book.orders store.old) result (S.Store.room store.new) (S.Book.orders store.new) }
 {
     let old = own_order(store, number, participant)?;
     let _ = store.take_out(number);
