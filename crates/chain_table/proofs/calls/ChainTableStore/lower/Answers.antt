@@ -9,8 +9,8 @@ use Rattle.chain_table.specs.Steps.{Holds, Refilled}
 use Rattle.chain_table.specs.Intact.{Holding, closed, list_is, kept, table_kept}
 use Rattle.chain_table.proofs.Tables.{none_at, seen_at, used_made, rewritten}
 use Rattle.chain_table.proofs.Writes.{row_told}
-use Rattle.chain_table.proofs.table.ChainTable.reduce.Goals as goal
-use Rattle.chain_table.proofs.table.ChainTable.reduce.Goals.{After-index, After-refill}
+use Rattle.chain_table.proofs.calls.ChainTableStore.lower.Goals as goal
+use Rattle.chain_table.proofs.calls.ChainTableStore.lower.Goals.{After-index, After-refill}
 
 pub returns-in_default : goal.returns-in_default
 returns-in_default c =
@@ -47,15 +47,15 @@ written c =
 pub invariant_of-self : goal.invariant_of-self
 invariant_of-self c = closed (written c)
 
-pub returns-in-Some-lowered : goal.returns-in-Some-lowered
-returns-in-Some-lowered c =
-    let some = finds (goal.at.returns-in-Some-lowered c).After-index in
+pub returns : goal.returns
+returns c =
+    let some = finds (goal.at.returns c).After-index in
     let may = (given _ _ _ c.in-Some-lowered.ensures).0 in
-    let w = written (goal.at.returns-in-Some-lowered c).After-refill in
+    let w = written (goal.at.returns c).After-refill in
     record { value = rw (some, may); after = rw (some, may) (list_is w); kept = kept w c.args.self.now.capacity refl }
 
-pub returns-in-None : goal.returns-in-None
-returns-in-None c =
-    let some = finds (goal.at.returns-in-None c).After-index in
-    let may = withheld _ _ c.in-None.ensures in
+pub returns-in_default-lowered : goal.returns-in_default-lowered
+returns-in_default-lowered c =
+    let some = finds (goal.at.returns-in_default-lowered c).After-index in
+    let may = withheld _ _ c.in_default-lowered.ensures in
     record { value = rw (some, may); after = rw (some, may); kept = table_kept c.args.self.now }

@@ -6,7 +6,7 @@ use Rattle.chain_table.specs.Rows.{rows_of}
 use Rattle.chain_table.specs.Steps.{path_of}
 use Rattle.chain_table.specs.Intact.{opened, path_row, rows_length, table_kept}
 use Rattle.chain_table.proofs.Tables.{OnPath, told_there}
-use Rattle.chain_table.proofs.table.ChainTable.row.Goals as goal
+use Rattle.chain_table.proofs.calls.ChainTableBook.order_at.Goals as goal
 
 pub index-requires : goal.index-requires
 index-requires c = omega (arith, c.row_at.ensures, path_row c.args.self.now c.args.place (omega arith))
