@@ -1,3 +1,4 @@
+mod Spots
 mod Seeks
 mod Writes
 mod Moves

@@ -9,7 +9,7 @@ use Rattle.orders.specs.declared.terms.Terms.{Terms}
 use Rattle.book.proofs.General.{all_of}
 use Rattle.book.specs.Calls.{Kept}
 use Rattle.book.specs.Lists.{distinct}
-use Rattle.chain_table.specs.Chains.{next, prev, terms_at, told_by, no_terms, walk, used_rows, free_rows, rows_told, linked_both_ways, among, no_row_twice, all_below}
+use Rattle.chain_table.specs.Chains.{spot, next, prev, terms_at, told_by, no_terms, walk, used_rows, free_rows, rows_told, linked_both_ways, among, no_row_twice, all_below}
 use Rattle.chain_table.specs.Rows.{rows_of}
 use Rattle.chain_table.specs.Steps.{path_of, Spot}
 use Rattle.chain_table.specs.declared.chain.Chain.{Chain}
@@ -51,11 +51,11 @@ Fields c count free capacity =
       apart : distinct (rows_told c count) ≡ true;
     }
 
-pub opened : (t : ChainTable) → Intact t.chain t.count t.free t.capacity (path_of t) (free_rows t.chain t.free t.count) (rows_of t)
+pub opened : (t : ChainTable) → Intact t.chain t.count (spot t.free) t.capacity (path_of t) (free_rows t.chain (spot t.free) t.count) (rows_of t)
 opened t =
     let c = t.chain in
     let n = vec_len c.rows in
-    let spare = length_walk (next c) (n - t.count) t.free in
+    let spare = length_walk (next c) (n - t.count) (spot t.free) in
     record {
       most = t.most;
       within = t.within;
@@ -63,23 +63,23 @@ opened t =
       long = length_walk (next c) t.count (next c 256);
       total = omega (arith, t.counted);
       link = from_linked (next c) (prev c) 256 (path_of t) 256 t.linked;
-      frees = ap (λ k. walk (next c) k t.free) spare;
+      frees = ap (λ k. walk (next c) k (spot t.free)) spare;
       once = t.once;
-      present = from_below n (path_of t ++ free_rows c t.free t.count) t.present;
+      present = from_below n (path_of t ++ free_rows c (spot t.free) t.count) t.present;
       told = refl;
       apart = t.apart;
     }
 
 -- one of some rows or the end
-pub spot : (c : Chain) (i : ℕ) (xs : List ℕ) → Below (vec_len c.rows) xs → among i (256 ∷ xs) ≡ true → Spot c i
-spot c i xs b h n = ⊎_elim (λ k. absurd (n (sym (eqb-true 256 i k)))) (λ k. all_among (λ x. x < vec_len c.rows) i xs b k) (or_cases (256 == i) (among i xs) h)
+pub on_spot : (c : Chain) (i : ℕ) (xs : List ℕ) → vec_len c.rows ≤ 256 → Below (vec_len c.rows) xs → among i (256 ∷ xs) ≡ true → Spot c i
+on_spot c i xs few b h n = ⊎_elim (λ k. absurd (n (sym (eqb-true 256 i k)))) (λ k. let l = all_among (λ x. x < vec_len c.rows) i xs b k in omega arith) (or_cases (256 == i) (among i xs) h)
 
 module _ {c : Chain} {count free capacity : ℕ} {xs sp : List ℕ} {ts : List Terms} (s : Intact c count free capacity xs sp ts) where
   below : Below (vec_len c.rows) xs
   below = (all_parts (λ x. x < vec_len c.rows) xs sp s.present).0
 
   pub last_spot : Spot c (prev c 256)
-  last_spot = spot c (prev c 256) xs below (last_among (next c) (prev c) 256 xs 256 s.link)
+  last_spot = on_spot c (prev c 256) xs (omega (arith, s.most, s.within)) below (last_among (next c) (prev c) 256 xs 256 s.link)
 
 -- the terms in every row are in range
 ranged : (c : Chain) (i : ℕ) → i < vec_len c.rows → in_range (terms_at c i) ≡ true
@@ -122,8 +122,8 @@ module _ {c : Chain} {count free capacity : ℕ} {ts : List Terms} (h : Holding 
       })
 
 -- a table as it stands
-pub whole : (t : ChainTable) → Holding t.chain t.count t.free t.capacity (rows_of t)
-whole t = record { used = path_of t; spare = free_rows t.chain t.free t.count; intact = opened t }
+pub whole : (t : ChainTable) → Holding t.chain t.count (spot t.free) t.capacity (rows_of t)
+whole t = record { used = path_of t; spare = free_rows t.chain (spot t.free) t.count; intact = opened t }
 
 pub table_kept : (t : ChainTable) → Kept t.capacity t.capacity (rows_of t)
 table_kept t = kept (whole t) t.capacity refl

@@ -1,5 +1,5 @@
 -- What the single steps of the code do.
-use Rattle.std.specs.Prelude.{◌≡◌, ℕ, ◌+◌, ◌<◌, cond, List, [], ◌∷◌, ◌++◌, Some, None, vec_len, vec_capacity, Option, ◌==◌, ◌≢◌}
+use Rattle.std.specs.Prelude.{◌≡◌, ℕ, ◌+◌, ◌<◌, min, cond, List, [], ◌∷◌, ◌++◌, Some, None, vec_len, vec_capacity, Option, ◌==◌, ◌≢◌}
 use Rattle.orders.specs.declared.terms.Terms.{Terms}
 use Rattle.book.specs.Lists.{without}
 use Rattle.chain_table.specs.Chains.{links_at, terms_at, next, prev, used_rows}
@@ -31,7 +31,7 @@ pub record Holds (t : ChainTable) (number at : ℕ) : Type 0 where
 
 -- a row or the end
 abbrev pub Spot : Chain → ℕ → Type 0
-Spot c i = (i ≢ 256) → i < vec_len c.rows
+Spot c i = (i ≢ 256) → i < min (vec_len c.rows) 256
 
 -- as many rows with the same terms
 pub record SameOrders (c d : Chain) : Type 0 where

@@ -16,7 +16,8 @@ impl Book for ChainTable {
 
     fn order_at(&self, place: usize) -> Option<Order> {
         if place < self.count {
-            Some(self.chain.rows[self.row_at(place)].order)
+            let at = self.row_at(place)?;
+            Some(self.chain.rows[at].order)
         } else {
             None
         }

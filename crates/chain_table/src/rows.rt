@@ -2,10 +2,11 @@
 ghost use Rattle.std.specs.Prelude.{◌≡◌, ◌<◌, min, false, [], IfOk, vec_len, slice_index_or};
 ghost use Rattle.orders.specs.Told.{terms_of};
 ghost use Rattle.book.specs.Lists.{held};
+ghost use Rattle.chain_table.specs.Chains.{spot};
 ghost use Rattle.chain_table.specs.Rows.{rows_of};
 ghost use Rattle.chain_table.specs.Steps.{path_of, number_in, row_holding, Holds, Freed, CameLast, Left};
 
-use crate::chain::{Chain, END, Links};
+use crate::chain::{Chain, Links};
 use crate::table::ChainTable;
 use orders::capacity::MOST;
 use orders::order::Order;
@@ -19,21 +20,21 @@ impl ChainTable {
         let capacity = length.min(MOST);
         let rows = Vec::with_capacity(heap, capacity)?;
         let ends = Links {
-            before: END,
-            after: END,
+            before: None,
+            after: None,
         };
         Ok(ChainTable {
             chain: Chain { rows, ends },
             count: 0,
-            free: END,
+            free: None,
             capacity,
         })
     }
 
     // The row at a place of the list.
-    pub(crate) fn row_at(&self, place: usize) -> usize
+    pub(crate) fn row_at(&self, place: usize) -> Option<usize>
         requires { place < self.now.count }
-        ensures { result ≡ slice_index_or (path_of self.now) place 256 }
+        ensures { spot result ≡ slice_index_or (path_of self.now) place 256 }
     {
         let mut at = self.chain.ends.after;
         for _step in 0..place {
@@ -46,13 +47,14 @@ impl ChainTable {
     pub(crate) fn row_of(&self, number: u32) -> Option<usize>
         ensures { result ≡ row_holding number self.now }
     {
-        let mut at = self.chain.ends.after;
+        let mut next = self.chain.ends.after;
         for _step in 0..self.count {
+            let at = next?;
             let row = self.chain.rows[at];
             if row.order.terms().number == number {
                 return Some(at);
             }
-            at = row.links.after;
+            next = row.links.after;
         }
         None
     }
@@ -63,7 +65,7 @@ impl ChainTable {
         ensures { Freed self.old self.new }
     {
         if self.count == self.chain.rows.len() {
-            self.free = self.count;
+            self.free = Some(self.count);
             self.chain.push(order);
         }
     }
@@ -74,12 +76,12 @@ impl ChainTable {
         requires spare { self.old.count < vec_len self.old.chain.rows }
         ensures { CameLast self.old self.new (terms_of order) }
     {
-        let at = self.free;
-        self.free = self.chain.neighbours(at).after;
+        let at = self.free.unwrap();
+        self.free = self.chain.rows[at].links.after;
         let last = self.chain.ends.before;
         self.chain.refill(at, order);
-        self.chain.join(last, at);
-        self.chain.join(at, END);
+        self.chain.join(last, Some(at));
+        self.chain.join(Some(at), None);
         self.count += 1;
     }
 
@@ -88,14 +90,14 @@ impl ChainTable {
         requires { Holds self.old (number_in self.old at) at }
         ensures { Left self.old self.new (number_in self.old at) }
     {
-        let Links { before, after } = self.chain.neighbours(at);
+        let Links { before, after } = self.chain.rows[at].links;
         self.chain.join(before, after);
         let links = Links {
-            before: END,
+            before: None,
             after: self.free,
         };
-        self.chain.relink(at, links);
-        self.free = at;
+        self.chain.relink(Some(at), links);
+        self.free = Some(at);
         self.count -= 1;
     }
 }

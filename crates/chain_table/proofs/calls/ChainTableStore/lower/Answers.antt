@@ -3,7 +3,7 @@ use Rattle.orders.specs.Ranges.{with_quantity}
 use Rattle.orders.specs.Told.{terms_of}
 use Rattle.book.proofs.General.{given, withheld}
 use Rattle.book.specs.Lists.{found, lowered}
-use Rattle.chain_table.specs.Chains.{terms_at, told_by}
+use Rattle.chain_table.specs.Chains.{spot, terms_at, told_by}
 use Rattle.chain_table.specs.Rows.{rows_of}
 use Rattle.chain_table.specs.Steps.{Holds, Refilled}
 use Rattle.chain_table.specs.Intact.{Holding, closed, list_is, kept, table_kept}
@@ -37,7 +37,7 @@ pub refill-requires : goal.refill-requires
 refill-requires c = used_made (at_row (goal.at.refill-requires c).After-index)
 
 written : (c : After-refill) →
-    Holding c.refill.new.self c.args.self.now.count c.args.self.now.free c.args.self.now.capacity (lowered c.args.number c.args.quantity (rows_of c.args.self.now))
+    Holding c.refill.new.self c.args.self.now.count (spot c.args.self.now.free) c.args.self.now.capacity (lowered c.args.number c.args.quantity (rows_of c.args.self.now))
 written c =
     let t = c.args.self.now in
     let i = (goal.at.invariant_of-self c).After-index in

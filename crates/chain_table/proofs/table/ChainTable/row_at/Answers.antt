@@ -1,5 +1,5 @@
 use Rattle.std.proofs.Common.{ap, ◌∙◌, arith}
-use Rattle.chain_table.specs.Chains.{next}
+use Rattle.chain_table.specs.Chains.{spot, next}
 use Rattle.chain_table.specs.Intact.{path_start, path_row, path_step}
 use Rattle.chain_table.proofs.table.ChainTable.row_at.Goals as goal
 
@@ -12,4 +12,4 @@ neighbours-at-requires c = λ n. omega (arith, c.loop-step.invariant, path_row c
 pub loop-step-preserved : goal.loop-step-preserved
 loop-step-preserved c =
     let t = c.args.self.now in
-    ap (λ l. l.after) c.neighbours-at.ensures ∙ ap (next t.chain) c.loop-step.invariant ∙ path_step t c.loop-step._step (omega (arith, c.requires))
+    ap (λ l. spot l.after) c.neighbours-at.ensures ∙ ap (next t.chain) c.loop-step.invariant ∙ path_step t c.loop-step._step (omega (arith, c.requires))
