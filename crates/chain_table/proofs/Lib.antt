@@ -1,4 +1,5 @@
 mod Spots
+mod Rests
 mod Seeks
 mod Writes
 mod Moves

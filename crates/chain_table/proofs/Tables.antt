@@ -1,56 +1,65 @@
 -- The rows of a table: along its chain, the row of a number, the first free row, and what comes of the table when one of them changes.
-use Rattle.std.proofs.Common.{◌≡◌, ℕ, suc, ◌+◌, ◌-◌, ◌<◌, true, false, List, [], ◌∷◌, ◌++◌, map, get_or, drop, Some, None, IsSome, vec_items, vec_len, sym, ap, ◌∙◌, subst, arith}
-use Rattle.std.proofs.lemmas.List.{drop_more, nil_from_length}
-use Rattle.std.proofs.lemmas.Bool.{eq-eqb, ne_eqb}
+use Rattle.std.proofs.Common.{◌≡◌, ℕ, suc, ◌+◌, ◌-◌, ◌<◌, ◌≤◌, ◌==◌, ◌≢◌, true, false, Option, List, [], ◌∷◌, ◌++◌, map, get_or, Some, None, IsSome, vec_items, vec_len, sym, ap, ◌∙◌, subst, ⊎_elim, arith}
+use Rattle.std.proofs.lemmas.List.{nil_from_length}
+use Rattle.std.proofs.lemmas.Bool.{eqb-true, or_cases}
 use Rattle.orders.specs.Ranges.{with_quantity}
 use Rattle.orders.specs.declared.terms.Terms.{Terms}
 use Rattle.book.proofs.Laws.{distinct_push, distinct_without, distinct_lowered}
 use Rattle.book.specs.Lists.{held, found, without, lowered, distinct}
-use Rattle.chain_table.specs.Chains.{spot, links_at, next, prev, terms_at, told_by, walk, free_rows, no_row_twice}
+use Rattle.chain_table.specs.Chains.{spot, links_at, next, prev, terms_at, told_by, walk, free_rows, among, no_row_twice}
 use Rattle.chain_table.specs.Rows.{rows_of}
-use Rattle.chain_table.specs.Steps.{path_of, first_with, row_holding, Holds, Spot, Relinked, Joined, Refilled, Pushed}
+use Rattle.chain_table.specs.Steps.{path_of, rest_from, told_in, row_holding, Holds, Spot, Relinked, Joined, Refilled, Pushed}
 use Rattle.chain_table.specs.declared.chain.Chain.{Chain}
 use Rattle.chain_table.specs.declared.chain.Links.{Links}
 use Rattle.chain_table.specs.declared.chain.Row.{Row}
 use Rattle.chain_table.specs.declared.table.ChainTable.{ChainTable}
-use Rattle.chain_table.specs.Indices.{once_front, once_out, all_parts}
-use Rattle.chain_table.specs.Intact.{Intact, Holding, opened, path_row, path_step}
+use Rattle.chain_table.specs.Indices.{past_off, once_front, once_out, all_parts}
+use Rattle.chain_table.specs.Intact.{Intact, Holding, opened, below, on_spot}
 use Rattle.chain_table.proofs.Moves.{row_made, before_spot, after_spot, leave, grow, enter, rewrite}
-use Rattle.chain_table.proofs.Spots.{spot_row, is_row, row_is}
+use Rattle.chain_table.proofs.Spots.{spot_row, told_row, is_row, row_is}
+use Rattle.chain_table.proofs.Rests.{none_from, step_from}
 use Rattle.chain_table.proofs.Seeks.{Seen, seen, unseen}
 use Rattle.chain_table.proofs.Writes.{row_links, row_told}
 
 abbrev spare_of : ChainTable → List ℕ
 spare_of t = free_rows t.chain (spot t.free) t.count
 
--- the row that is read at a place of the path
-pub record OnPath (t : ChainTable) (k at : ℕ) (r : Row) : Type 0 where
-  pub within : k < t.count
-  pub here : at ≡ get_or (path_of t) k 256
-  pub read : r ≡ get_or (vec_items t.chain.rows) at r
+few_rows : (t : ChainTable) → vec_len t.chain.rows ≤ 256
+few_rows t = omega (arith, t.within, t.most)
 
-pub told_there : {t : ChainTable} {k at : ℕ} {r : Row} → OnPath t k at r → told_by r ≡ terms_at t.chain (get_or (path_of t) k 256)
-told_there {t} {k} {at} {r} p = row_told t.chain at r (omega (arith, p.here, path_row t k p.within)) p.read ∙ ap (terms_at t.chain) p.here
+end_off : (t : ChainTable) → among 256 (path_of t) ≡ false
+end_off t = past_off (vec_len t.chain.rows) 256 (path_of t) (few_rows t) (below (opened t))
 
-pub next_there : {t : ChainTable} {k at : ℕ} {r : Row} → OnPath t k at r → spot r.links.after ≡ get_or (path_of t) (k + 1) 256
-next_there {t} {k} {at} {r} p =
-    let row = path_row t k p.within in
-    ap (λ l. spot l.after) (row_links t.chain at r (λ e. omega (arith, p.here, t.within, t.most)) (omega (arith, p.here)) p.read)
-    ∙ ap (next t.chain) p.here
-    ∙ path_step t k p.within
+-- a walk along the rows in use: at a row, and at the end
+pub record WalkStep (t : ChainTable) (o : Option ℕ) (at : ℕ) : Type 0 where
+  pub made : at < vec_len t.chain.rows
+  pub off : at ≢ 256
+  pub rest : rest_from (spot o) (path_of t) ≡ at ∷ rest_from (next t.chain at) (path_of t)
+  pub still : among (next t.chain at) (256 ∷ path_of t) ≡ true
 
--- a search that has come to a place of the path
-pub seek_here : {t : ChainTable} {k at : ℕ} {r : Row} (n : ℕ) → OnPath t k at r → (told_by r).number ≡ n → first_with n (terms_at t.chain) (drop k (path_of t)) ≡ Some at
-seek_here {t} {k} n p e =
-    let l = (opened t).long in
-    let same = eq-eqb _ _ (ap (λ x. x.number) (sym (told_there p)) ∙ e) in
-    rw (drop_more (path_of t) k 256 (omega (arith, p.within)), same) (ap Some (sym p.here))
+pub walk_step : (t : ChainTable) (o : Option ℕ) (at : ℕ) → o ≡ Some at → among (spot o) (256 ∷ path_of t) ≡ true → WalkStep t o at
+walk_step t o at e k =
+    let told = told_row o at (vec_len t.chain.rows) e (on_spot t.chain (spot o) (path_of t) (few_rows t) (below (opened t)) k) in
+    let off : at ≢ 256 = λ z. omega (arith, told.2) in
+    let h = subst (λ i. among i (256 ∷ path_of t) ≡ true) told.0 k in
+    let here = ⊎_elim (λ z. absurd (off (sym (eqb-true 256 at z)))) (λ z. z) (or_cases (256 == at) (among at (path_of t)) h) in
+    let once = once_front (path_of t) (spare_of t) t.once in
+    let r = step_from (next t.chain) (prev t.chain) 256 (path_of t) 256 at (opened t).link once (end_off t) here in
+    record { made = told.1; off = off; rest = ap (λ i. rest_from i (path_of t)) told.0 ∙ r.0; still = r.1 }
 
-pub seek_next : {t : ChainTable} {k at : ℕ} {r : Row} (n : ℕ) → OnPath t k at r → ((told_by r).number ≡ n → ⊥) → first_with n (terms_at t.chain) (drop k (path_of t)) ≡ first_with n (terms_at t.chain) (drop (k + 1) (path_of t))
-seek_next {t} {k} n p e =
-    let l = (opened t).long in
-    let other = ne_eqb _ _ (λ i. e (ap (λ x. x.number) (told_there p) ∙ i)) in
-    rw (drop_more (path_of t) k 256 (omega (arith, p.within)), other)
+pub walk_read : (t : ChainTable) (o : Option ℕ) (at : ℕ) (r : Row) → o ≡ Some at → among (spot o) (256 ∷ path_of t) ≡ true → r ≡ get_or (vec_items t.chain.rows) at r
+    → (map (told_in t.chain) (rest_from (spot o) (path_of t)) ≡ (at, told_by r) ∷ map (told_in t.chain) (rest_from (spot r.links.after) (path_of t))) × (among (spot r.links.after) (256 ∷ path_of t) ≡ true)
+walk_read t o at r e k h =
+    let w = walk_step t o at e k in
+    let on : next t.chain at ≡ spot r.links.after = ap (λ l. spot l.after) (sym (row_links t.chain at r w.off w.made h)) in (
+      ap (map (told_in t.chain)) w.rest
+          ∙ ap (λ i. told_in t.chain at ∷ map (told_in t.chain) (rest_from i (path_of t))) on
+          ∙ ap (λ x. (at, x) ∷ map (told_in t.chain) (rest_from (spot r.links.after) (path_of t))) (sym (row_told t.chain at r w.made h)),
+      subst (λ i. among i (256 ∷ path_of t) ≡ true) on w.still,
+    )
+
+pub walk_end : (t : ChainTable) → rest_from 256 (path_of t) ≡ []
+walk_end t = none_from 256 (path_of t) (end_off t)
 
 -- the number is not held
 pub none_at : (t : ChainTable) (n : ℕ) → None ≡ row_holding n t → found n (rows_of t) ≡ None

@@ -1,5 +1,6 @@
 -- Rows that are chained by index. The number 256 tells the end, which stands before the first row and after the last.
-use Rattle.std.specs.Prelude.{ℕ, zero, suc, ◌-◌, Bool, true, false, cond, not, ◌&&◌, ◌||◌, List, [], ◌∷◌, map, Option, Some, None, vec_items, vec_len, ◌==◌, nat_lt, slice_index_or}
+use Rattle.std.specs.Prelude.{ℕ, zero, suc, ◌-◌, Bool, true, cond, not, ◌&&◌, List, [], ◌∷◌, map, Option, Some, None, vec_items, vec_len, ◌==◌, nat_lt, slice_index_or}
+use Rattle.std.specs.List.{list_any, list_all}
 use Rattle.orders.specs.Told.{terms_of}
 use Rattle.orders.specs.declared.terms.Kind.TheVariants.{Market}
 use Rattle.orders.specs.declared.terms.Side.TheVariants.{Buy}
@@ -73,8 +74,7 @@ linked_both_ways c xs = linked_through (next c) (prev c) 256 xs 256
 
 -- n is one of the list
 abbrev pub among : ℕ → List ℕ → Bool
-among n [] = false
-among n (x ∷ xs) = x == n || among n xs
+among n = list_any (λ x. x == n)
 
 -- no two of the list are equal
 abbrev pub no_row_twice : List ℕ → Bool
@@ -83,5 +83,4 @@ no_row_twice (x ∷ xs) = not (among x xs) && no_row_twice xs
 
 -- each of the list is less than n
 abbrev pub all_below : ℕ → List ℕ → Bool
-all_below n [] = true
-all_below n (x ∷ xs) = nat_lt x n && all_below n xs
+all_below n = list_all (λ x. nat_lt x n)

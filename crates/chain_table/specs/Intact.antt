@@ -1,6 +1,6 @@
 -- What holds of a table, with its rows in use and its free rows as lists.
-use Rattle.std.specs.Prelude.{◌≡◌, ℕ, ◌+◌, ◌-◌, ◌<◌, ◌≤◌, true, List, ◌∷◌, ◌++◌, map, length, get_or, vec_items, vec_len, vec_capacity, ◌==◌, slice_index_or, refl}
-use Rattle.std.proofs.Common.{⊎_elim, sym, ap, subst, ◌∙◌, add-one, arith}
+use Rattle.std.specs.Prelude.{◌≡◌, ℕ, ◌+◌, ◌-◌, ◌<◌, ◌≤◌, true, List, ◌∷◌, ◌++◌, map, length, vec_items, vec_len, vec_capacity, ◌==◌, refl}
+use Rattle.std.proofs.Common.{⊎_elim, sym, ap, subst, ◌∙◌, arith}
 use Rattle.std.proofs.ByRecursion.{All-get_or, All-map, All-weaker}
 use Rattle.std.proofs.lemmas.List.{length-map}
 use Rattle.std.proofs.lemmas.Bool.{or_cases, eqb-true}
@@ -15,7 +15,7 @@ use Rattle.chain_table.specs.Steps.{path_of, Spot}
 use Rattle.chain_table.specs.declared.chain.Chain.{Chain}
 use Rattle.chain_table.specs.declared.table.ChainTable.{ChainTable}
 use Rattle.chain_table.specs.Indices.{all_parts, all_among, Below, from_below, to_below}
-use Rattle.chain_table.specs.Walks.{Linked, from_linked, to_linked, length_walk, walk_linked, first_of, step_of, last_among}
+use Rattle.chain_table.specs.Walks.{Linked, from_linked, to_linked, length_walk, walk_linked, last_among}
 
 -- the rows xs are in use and tell ts, and the rows sp are free
 pub record Intact (c : Chain) (count free capacity : ℕ) (xs sp : List ℕ) (ts : List Terms) : Type 0 where
@@ -75,7 +75,7 @@ pub on_spot : (c : Chain) (i : ℕ) (xs : List ℕ) → vec_len c.rows ≤ 256 �
 on_spot c i xs few b h n = ⊎_elim (λ k. absurd (n (sym (eqb-true 256 i k)))) (λ k. let l = all_among (λ x. x < vec_len c.rows) i xs b k in omega arith) (or_cases (256 == i) (among i xs) h)
 
 module _ {c : Chain} {count free capacity : ℕ} {xs sp : List ℕ} {ts : List Terms} (s : Intact c count free capacity xs sp ts) where
-  below : Below (vec_len c.rows) xs
+  pub below : Below (vec_len c.rows) xs
   below = (all_parts (λ x. x < vec_len c.rows) xs sp s.present).0
 
   pub last_spot : Spot c (prev c 256)
@@ -130,15 +130,3 @@ table_kept t = kept (whole t) t.capacity refl
 
 pub rows_length : (t : ChainTable) → length (rows_of t) ≡ t.count
 rows_length t = length-map (path_of t) (terms_at t.chain) ∙ (opened t).long
-
--- along the path of a table
-pub path_start : (t : ChainTable) → next t.chain 256 ≡ slice_index_or (path_of t) 0 256
-path_start t = first_of (next t.chain) (prev t.chain) 256 (path_of t) 256 (opened t).link
-
-pub path_row : (t : ChainTable) (k : ℕ) → k < t.count → slice_index_or (path_of t) k 256 < vec_len t.chain.rows
-path_row t k h = All-get_or (λ i. i < vec_len t.chain.rows) (path_of t) k 256 (omega (arith, (opened t).long)) (below (opened t))
-
-pub path_step : (t : ChainTable) (k : ℕ) → k < t.count → next t.chain (slice_index_or (path_of t) k 256) ≡ slice_index_or (path_of t) (k + 1) 256
-path_step t k h =
-    step_of (next t.chain) (prev t.chain) 256 (path_of t) 256 k (omega (arith, (opened t).long)) (opened t).link
-    ∙ ap (λ j. get_or (path_of t) j 256) (sym (add-one k))

@@ -15,12 +15,8 @@ impl Book for ChainTable {
     }
 
     fn order_at(&self, place: usize) -> Option<Order> {
-        if place < self.count {
-            let at = self.row_at(place)?;
-            Some(self.chain.rows[at].order)
-        } else {
-            None
-        }
+        let (_, order) = self.rows_in_use().nth(place)?;
+        Some(order)
     }
 }
 

@@ -1,10 +1,9 @@
 // What the table does with its rows.
-ghost use Rattle.std.specs.Prelude.{◌≡◌, ◌<◌, min, false, [], IfOk, vec_len, slice_index_or};
+ghost use Rattle.std.specs.Prelude.{◌≡◌, ◌<◌, min, false, [], IfOk, vec_len};
 ghost use Rattle.orders.specs.Told.{terms_of};
 ghost use Rattle.book.specs.Lists.{held};
-ghost use Rattle.chain_table.specs.Chains.{spot};
 ghost use Rattle.chain_table.specs.Rows.{rows_of};
-ghost use Rattle.chain_table.specs.Steps.{path_of, number_in, row_holding, Holds, Freed, CameLast, Left};
+ghost use Rattle.chain_table.specs.Steps.{number_in, row_holding, Holds, Freed, CameLast, Left};
 
 use crate::chain::{Chain, Links};
 use crate::table::ChainTable;
@@ -31,32 +30,14 @@ impl ChainTable {
         })
     }
 
-    // The row at a place of the list.
-    pub(crate) fn row_at(&self, place: usize) -> Option<usize>
-        requires { place < self.now.count }
-        ensures { spot result ≡ slice_index_or (path_of self.now) place 256 }
-    {
-        let mut at = self.chain.ends.after;
-        for _step in 0..place {
-            at = self.chain.neighbours(at).after;
-        }
-        at
-    }
-
     // The row of a number, if it is held.
     pub(crate) fn row_of(&self, number: u32) -> Option<usize>
         ensures { result ≡ row_holding number self.now }
     {
-        let mut next = self.chain.ends.after;
-        for _step in 0..self.count {
-            let at = next?;
-            let row = self.chain.rows[at];
-            if row.order.terms().number == number {
-                return Some(at);
-            }
-            next = row.links.after;
-        }
-        None
+        let (at, _) = self
+            .rows_in_use()
+            .find(|(_, order)| order.terms().number == number)?;
+        Some(at)
     }
 
     // Adds a free row where there is none; until it is used it holds `order`.

@@ -1,44 +1,24 @@
-use Rattle.std.proofs.Common.{◌≡◌, ◌<◌, get_or, vec_len, Some, sym, ap, ◌∙◌, arith}
-use Rattle.std.proofs.lemmas.List.{get_or-map}
-use Rattle.std.proofs.lemmas.Option.{slice_get-get_or, slice_get_past}
-use Rattle.chain_table.specs.Chains.{terms_at, no_terms}
+use Rattle.std.proofs.Common.{◌≡◌, option_map, slice_get, ap, sym, ◌∙◌}
+use Rattle.std.proofs.lemmas.Iterator.Consumers.{YieldsList-from_first, nth_from_yields_List}
+use Rattle.orders.specs.Told.{terms_of}
+use Rattle.chain_table.specs.Chains.{terms_at}
 use Rattle.chain_table.specs.Rows.{rows_of}
-use Rattle.chain_table.specs.Steps.{path_of}
-use Rattle.chain_table.specs.Intact.{opened, path_row, rows_length, table_kept}
-use Rattle.chain_table.proofs.Spots.{row_of_spot}
-use Rattle.chain_table.proofs.Tables.{OnPath, told_there}
+use Rattle.chain_table.specs.Steps.{path_of, row_and_terms}
+use Rattle.chain_table.specs.Intact.{table_kept}
+use Rattle.chain_table.proofs.Seeks.{placed}
 use Rattle.chain_table.proofs.calls.ChainTableBook.order_at.Goals as goal
-use Rattle.chain_table.proofs.calls.ChainTableBook.order_at.Goals.{In_ok-at}
+use Rattle.chain_table.proofs.calls.ChainTableBook.order_at.Goals.{After-nth}
 
-pub returns-in_err-at : goal.returns-in_err-at
-returns-in_err-at c =
+-- what was read
+read : (c : After-nth) → option_map (λ p. p.1) (option_map row_and_terms c.nth.result) ≡ slice_get (rows_of c.args.self.now) c.args.place
+read c =
     let t = c.args.self.now in
-    absurd (omega (arith, path_row t c.args.place (omega arith), t.within, t.most, c.in_err-at.ensures))
+    placed (terms_at t.chain) (path_of t) c.args.place _ (nth_from_yields_List c.nth.result _ c.args.place c.nth.ensures.ran (YieldsList-from_first row_and_terms (λ left. left) _ c.rows_in_use.ensures))
 
--- the row at the place
-here : (c : In_ok-at) → (c.in_ok-at.at ≡ get_or (path_of c.args.self.now) c.args.place 256) × (c.in_ok-at.at < vec_len c.args.self.now.chain.rows)
-here c =
-    let t = c.args.self.now in
-    let row = path_row t c.args.place (omega arith) in
-    let told = c.in_ok-at.ensures in
-    let same = row_of_spot c.in_ok-at.at (omega (arith, row, told, t.within, t.most)) in
-    (sym same ∙ told, omega (arith, row, told, same))
+pub returns-in_err-order : goal.returns-in_err-order
+returns-in_err-order c =
+    record { value = ap (option_map terms_of) c.from_residual.ensures ∙ ap (λ r. option_map (λ p. p.1) (option_map row_and_terms r)) (sym c.in_err-order.was) ∙ read (goal.at.returns-in_err-order c).After-nth; sound = (table_kept c.args.self.now).sound }
 
-pub index-requires : goal.index-requires
-index-requires c = (here (goal.at.index-requires c).In_ok-at).1
-
-pub returns-in_ok-at : goal.returns-in_ok-at
-returns-in_ok-at c =
-    let t = c.args.self.now in
-    let place = c.args.place in
-    let p : OnPath t place c.in_ok-at.at c.index.result.now = record { within = omega arith; here = (here (goal.at.returns-in_ok-at c).In_ok-at).0; read = c.index.ensures } in
-    let there = get_or-map (terms_at t.chain) (path_of t) place 256 no_terms (omega (arith, (opened t).long)) in
-    record {
-      value = sym (slice_get-get_or (rows_of t) place no_terms (omega (arith, rows_length t)) ∙ ap Some (there ∙ sym (told_there p)));
-      sound = (table_kept t).sound;
-    }
-
-pub returns-else-place-self : goal.returns-else-place-self
-returns-else-place-self c =
-    let t = c.args.self.now in
-    record { value = sym (slice_get_past (rows_of t) c.args.place (omega (arith, rows_length t))); sound = (table_kept t).sound }
+pub returns : goal.returns
+returns c =
+    record { value = ap (λ r. option_map (λ p. p.1) (option_map row_and_terms r)) (sym c.in_ok-order.was) ∙ read (goal.at.returns c).After-nth; sound = (table_kept c.args.self.now).sound }
