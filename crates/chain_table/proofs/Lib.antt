@@ -1,3 +1,6 @@
+mod Indices
+mod Walks
+mod Intact
 mod Spots
 mod Rests
 mod Seeks

@@ -9,9 +9,9 @@ use Rattle.chain_table.specs.Chains.{spot, links_at, next, prev, terms_at, walk,
 use Rattle.chain_table.specs.Steps.{Spot, Led, Relinked, Joined, Refilled, Pushed}
 use Rattle.chain_table.specs.declared.chain.Chain.{Chain}
 use Rattle.chain_table.specs.declared.chain.Links.{Links}
-use Rattle.chain_table.specs.Indices.{other, among_parts, once_from, once_front, once_out, once_in, once_sides, all_parts, past_off, Below}
-use Rattle.chain_table.specs.Intact.{Intact, on_spot}
-use Rattle.chain_table.specs.Walks.{Alike, Linked, first_among, last_among, linked_split, alike_all, alike_off, map_alike, walk_alike, linked_alike, bypass, attach}
+use Rattle.chain_table.proofs.Indices.{other, among_parts, once_from, once_front, once_out, once_in, once_sides, all_parts, past_off, Below}
+use Rattle.chain_table.proofs.Intact.{Intact, on_spot}
+use Rattle.chain_table.proofs.Walks.{Alike, Linked, first_among, last_among, linked_split, alike_all, alike_off, map_alike, walk_alike, linked_alike, bypass, attach}
 
 -- chains whose links are alike, one link of each, and both
 link_alike : (h : Links → ℕ) (c d : Chain) (xs : List ℕ) → Alike (links_at c) (links_at d) xs → Alike (λ i. h (links_at c i)) (λ i. h (links_at d i)) xs

@@ -3,8 +3,8 @@ use Rattle.std.proofs.Common.{◌≡◌, ℕ, true, false, eqb, List, [], ◌∷
 use Rattle.std.proofs.lemmas.Bool.{or_from, or_cases, or_left, or_right, eq-eqb, ne_eqb, eqb-true, both_ways, cases_Bool}
 use Rattle.chain_table.specs.Chains.{among, no_row_twice}
 use Rattle.chain_table.specs.Steps.{rest_from}
-use Rattle.chain_table.specs.Indices.{other, once_parts}
-use Rattle.chain_table.specs.Walks.{Linked, first_among}
+use Rattle.chain_table.proofs.Indices.{other, once_parts}
+use Rattle.chain_table.proofs.Walks.{Linked, first_among}
 
 -- nothing is left from what is not in it
 pub none_from : (p : ℕ) (xs : List ℕ) → among p xs ≡ false → rest_from p xs ≡ []

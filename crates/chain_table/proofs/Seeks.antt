@@ -5,8 +5,8 @@ use Rattle.orders.specs.Ranges.{with_quantity}
 use Rattle.orders.specs.declared.terms.Terms.{Terms}
 use Rattle.book.specs.Lists.{held, found, without, lowered}
 use Rattle.chain_table.specs.Chains.{among}
-use Rattle.chain_table.specs.Indices.{other}
-use Rattle.chain_table.specs.Walks.{alike_off, map_alike}
+use Rattle.chain_table.proofs.Indices.{other}
+use Rattle.chain_table.proofs.Walks.{alike_off, map_alike}
 
 -- the row i of zs is the first with the number
 pub record Seen (n : ℕ) (c : ℕ → Terms) (i : ℕ) (zs : List ℕ) : Type 0 where

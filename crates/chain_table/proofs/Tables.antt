@@ -13,8 +13,8 @@ use Rattle.chain_table.specs.declared.chain.Chain.{Chain}
 use Rattle.chain_table.specs.declared.chain.Links.{Links}
 use Rattle.chain_table.specs.declared.chain.Row.{Row}
 use Rattle.chain_table.specs.declared.table.ChainTable.{ChainTable}
-use Rattle.chain_table.specs.Indices.{past_off, once_front, once_out, all_parts}
-use Rattle.chain_table.specs.Intact.{Intact, Holding, opened, below, on_spot}
+use Rattle.chain_table.proofs.Indices.{past_off, once_front, once_out, all_parts}
+use Rattle.chain_table.proofs.Intact.{Intact, Holding, opened, below, on_spot}
 use Rattle.chain_table.proofs.Moves.{row_made, before_spot, after_spot, leave, grow, enter, rewrite}
 use Rattle.chain_table.proofs.Spots.{spot_row, told_row, is_row, row_is}
 use Rattle.chain_table.proofs.Rests.{none_from, step_from}

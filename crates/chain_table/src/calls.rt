@@ -1,6 +1,6 @@
 // The table as a readable book and as a store.
 ghost use Rattle.chain_table.specs.Rows.{rows_of};
-ghost use Rattle.chain_table.specs.Intact.{table_kept};
+ghost use Rattle.chain_table.specs.Kept.{table_kept};
 
 use crate::table::ChainTable;
 use book::{Book, Store};

@@ -1,5 +1,6 @@
 use Rattle.std.proofs.Common.{sym}
-use Rattle.chain_table.specs.Intact.{rows_length, table_kept}
+use Rattle.chain_table.specs.Kept.{table_kept}
+use Rattle.chain_table.proofs.Intact.{rows_length}
 use Rattle.chain_table.proofs.calls.ChainTableBook.count.Goals as goal
 
 pub returns : goal.returns

@@ -4,7 +4,7 @@ use Rattle.orders.specs.Told.{terms_of}
 use Rattle.chain_table.specs.Chains.{terms_at}
 use Rattle.chain_table.specs.Rows.{rows_of}
 use Rattle.chain_table.specs.Steps.{path_of, row_and_terms}
-use Rattle.chain_table.specs.Intact.{table_kept}
+use Rattle.chain_table.specs.Kept.{table_kept}
 use Rattle.chain_table.proofs.Seeks.{placed}
 use Rattle.chain_table.proofs.calls.ChainTableBook.order_at.Goals as goal
 use Rattle.chain_table.proofs.calls.ChainTableBook.order_at.Goals.{After-nth}

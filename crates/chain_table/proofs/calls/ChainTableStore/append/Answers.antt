@@ -1,11 +1,13 @@
-use Rattle.std.proofs.Common.{◌≡◌, true, false, eqb, [], ◌∷◌, ◌++◌, length, is_some, sym, ap, ◌∙◌, arith}
+use Rattle.std.proofs.Common.{◌≡◌, true, false, eqb, [], ◌∷◌, ◌++◌, length, is_some, sym, ap, subst, ◌∙◌, arith}
 use Rattle.std.proofs.lemmas.Bool.{eq-eqb, ne_eqb}
 use Rattle.orders.specs.Told.{terms_of}
+use Rattle.book.specs.Calls.{Kept}
 use Rattle.book.specs.Lists.{held}
 use Rattle.chain_table.specs.Chains.{terms_at}
 use Rattle.chain_table.specs.Rows.{rows_of}
 use Rattle.chain_table.specs.Steps.{path_of, row_holding}
-use Rattle.chain_table.specs.Intact.{whole, kept, rows_length, table_kept}
+use Rattle.chain_table.specs.Kept.{table_kept}
+use Rattle.chain_table.proofs.Intact.{rows_length}
 use Rattle.chain_table.proofs.Seeks.{held_sought}
 use Rattle.chain_table.proofs.calls.ChainTableStore.append.Goals as goal
 use Rattle.chain_table.proofs.calls.ChainTableStore.append.Goals.{After-is_some}
@@ -45,4 +47,4 @@ returns c =
     let h = told (goal.at.returns c).After-is_some ∙ c.if-is_some.false in
     let room : eqb (length (rows_of t)) t.capacity ≡ false = ne_eqb _ _ (omega (arith, rows_length t)) in
     let last = c.use_free_row.ensures.list ∙ ap (λ ts. ts ++ terms_of c.args.order ∷ []) f.list in
-    record { value = rw (h, room); after = rw (h, room) last; kept = kept (whole u) t.capacity (c.use_free_row.ensures.same ∙ f.same) }
+    record { value = rw (h, room); after = rw (h, room) last; kept = subst (λ room. Kept room u.capacity (rows_of u)) (c.use_free_row.ensures.same ∙ f.same) (table_kept u) }

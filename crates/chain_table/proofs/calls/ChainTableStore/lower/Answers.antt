@@ -1,4 +1,4 @@
-use Rattle.std.proofs.Common.{◌≡◌, Some, sym, refl, ap, ◌∙◌, subst}
+use Rattle.std.proofs.Common.{◌≡◌, Some, sym, ap, ◌∙◌, subst}
 use Rattle.orders.specs.Ranges.{with_quantity}
 use Rattle.orders.specs.Told.{terms_of}
 use Rattle.book.proofs.General.{given, withheld}
@@ -6,7 +6,8 @@ use Rattle.book.specs.Lists.{found, lowered}
 use Rattle.chain_table.specs.Chains.{spot, terms_at, told_by}
 use Rattle.chain_table.specs.Rows.{rows_of}
 use Rattle.chain_table.specs.Steps.{Holds, Refilled}
-use Rattle.chain_table.specs.Intact.{Holding, closed, list_is, kept, table_kept}
+use Rattle.chain_table.specs.Kept.{table_kept}
+use Rattle.chain_table.proofs.Intact.{Holding, closed, list_is, kept}
 use Rattle.chain_table.proofs.Tables.{none_at, seen_at, used_made, rewritten}
 use Rattle.chain_table.proofs.Writes.{row_told}
 use Rattle.chain_table.proofs.calls.ChainTableStore.lower.Goals as goal
@@ -52,7 +53,7 @@ returns c =
     let some = finds (goal.at.returns c).After-index in
     let may = (given _ _ _ c.in-Some-lowered.ensures).0 in
     let w = written (goal.at.returns c).After-refill in
-    record { value = rw (some, may); after = rw (some, may) (list_is w); kept = kept w c.args.self.now.capacity refl }
+    record { value = rw (some, may); after = rw (some, may) (list_is w); kept = kept w }
 
 pub returns-in_default-lowered : goal.returns-in_default-lowered
 returns-in_default-lowered c =

@@ -1,10 +1,11 @@
 use Rattle.std.proofs.Common.{Some, option_map, sym, ap, ◌∙◌, subst}
 use Rattle.orders.specs.Told.{terms_of}
 use Rattle.book.proofs.Laws.{without_none, not_held}
+use Rattle.book.specs.Calls.{Kept}
 use Rattle.book.specs.Lists.{without}
 use Rattle.chain_table.specs.Rows.{rows_of}
 use Rattle.chain_table.specs.Steps.{Holds}
-use Rattle.chain_table.specs.Intact.{whole, kept, table_kept}
+use Rattle.chain_table.specs.Kept.{table_kept}
 use Rattle.chain_table.proofs.Tables.{none_at, seen_at, used_made}
 use Rattle.chain_table.proofs.Writes.{row_told}
 use Rattle.chain_table.proofs.calls.ChainTableStore.take_out.Goals as goal
@@ -35,5 +36,5 @@ returns c =
     record {
       value = sym ((seen_at h).finds ∙ ap Some (sym (row_told t.chain c.in_ok-at.at c.index.result.now (used_made h) c.index.ensures)));
       after = c.release.ensures.list ∙ ap (λ n. without n (rows_of t)) (seen_at h).named;
-      kept = kept (whole c.release.new.self) t.capacity c.release.ensures.same;
+      kept = subst (λ room. Kept room c.release.new.self.capacity (rows_of c.release.new.self)) c.release.ensures.same (table_kept c.release.new.self);
     }

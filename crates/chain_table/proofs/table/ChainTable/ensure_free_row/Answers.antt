@@ -1,7 +1,7 @@
 use Rattle.std.proofs.Common.{Some, refl, ◌∙◌, arith}
 use Rattle.chain_table.specs.Chains.{spot}
 use Rattle.chain_table.specs.Rows.{rows_of}
-use Rattle.chain_table.specs.Intact.{Holding, closed, list_is}
+use Rattle.chain_table.proofs.Intact.{Holding, closed, list_is}
 use Rattle.chain_table.proofs.Tables.{grown}
 use Rattle.chain_table.proofs.table.ChainTable.ensure_free_row.Goals as goal
 use Rattle.chain_table.proofs.table.ChainTable.ensure_free_row.Goals.{After-push}

@@ -3,7 +3,7 @@ use Rattle.book.specs.Lists.{without}
 use Rattle.chain_table.specs.Chains.{spot}
 use Rattle.chain_table.specs.Rows.{rows_of}
 use Rattle.chain_table.specs.Steps.{number_in, Spot}
-use Rattle.chain_table.specs.Intact.{Holding, closed, list_is}
+use Rattle.chain_table.proofs.Intact.{Holding, closed, list_is}
 use Rattle.chain_table.proofs.Spots.{spot_row}
 use Rattle.chain_table.proofs.Tables.{used_made, used_before, used_after, read_links, released}
 use Rattle.chain_table.proofs.table.ChainTable.release.Goals as goal

@@ -2,7 +2,7 @@ use Rattle.std.proofs.Common.{◌+◌, [], ◌∷◌, ◌++◌, refl, arith}
 use Rattle.orders.specs.Told.{terms_of}
 use Rattle.chain_table.specs.Chains.{spot}
 use Rattle.chain_table.specs.Rows.{rows_of}
-use Rattle.chain_table.specs.Intact.{Holding, opened, closed, list_is, last_spot}
+use Rattle.chain_table.proofs.Intact.{Holding, opened, closed, list_is, last_spot}
 use Rattle.chain_table.proofs.Spots.{spot_row}
 use Rattle.chain_table.proofs.Tables.{free_is, free_at, entered}
 use Rattle.chain_table.proofs.table.ChainTable.use_free_row.Goals as goal

@@ -1,21 +1,19 @@
 -- What holds of a table, with its rows in use and its free rows as lists.
-use Rattle.std.specs.Prelude.{◌≡◌, ℕ, ◌+◌, ◌-◌, ◌<◌, ◌≤◌, true, List, ◌∷◌, ◌++◌, map, length, vec_items, vec_len, vec_capacity, ◌==◌, refl}
-use Rattle.std.proofs.Common.{⊎_elim, sym, ap, subst, ◌∙◌, arith}
-use Rattle.std.proofs.ByRecursion.{All-get_or, All-map, All-weaker}
+use Rattle.std.specs.Prelude.{◌≡◌, ℕ, ◌+◌, ◌-◌, ◌<◌, ◌≤◌, true, List, ◌∷◌, ◌++◌, map, length, vec_len, vec_capacity, ◌==◌, refl}
+use Rattle.std.proofs.Common.{⊎_elim, sym, ap, ◌∙◌, arith}
 use Rattle.std.proofs.lemmas.List.{length-map}
 use Rattle.std.proofs.lemmas.Bool.{or_cases, eqb-true}
-use Rattle.orders.specs.Ranges.{in_range}
 use Rattle.orders.specs.declared.terms.Terms.{Terms}
-use Rattle.book.proofs.General.{all_of}
 use Rattle.book.specs.Calls.{Kept}
 use Rattle.book.specs.Lists.{distinct}
-use Rattle.chain_table.specs.Chains.{spot, next, prev, terms_at, told_by, no_terms, walk, used_rows, free_rows, rows_told, linked_both_ways, among, no_row_twice, all_below}
+use Rattle.chain_table.specs.Chains.{spot, next, prev, terms_at, walk, used_rows, free_rows, rows_told, linked_both_ways, among, no_row_twice, all_below}
 use Rattle.chain_table.specs.Rows.{rows_of}
 use Rattle.chain_table.specs.Steps.{path_of, Spot}
 use Rattle.chain_table.specs.declared.chain.Chain.{Chain}
 use Rattle.chain_table.specs.declared.table.ChainTable.{ChainTable}
-use Rattle.chain_table.specs.Indices.{all_parts, all_among, Below, from_below, to_below}
-use Rattle.chain_table.specs.Walks.{Linked, from_linked, to_linked, length_walk, walk_linked, last_among}
+use Rattle.chain_table.proofs.Indices.{all_parts, all_among, Below, from_below, to_below}
+use Rattle.chain_table.specs.Kept.{Fields, length_walk, fields_kept}
+use Rattle.chain_table.proofs.Walks.{Linked, from_linked, to_linked, walk_linked, last_among}
 
 -- the rows xs are in use and tell ts, and the rows sp are free
 pub record Intact (c : Chain) (count free capacity : ℕ) (xs sp : List ℕ) (ts : List Terms) : Type 0 where
@@ -36,20 +34,6 @@ pub record Holding (c : Chain) (count free capacity : ℕ) (ts : List Terms) : T
   pub used : List ℕ
   pub spare : List ℕ
   pub intact : Intact c count free capacity used spare ts
-
--- the facts that the fields of a table state
-abbrev pub Fields : Chain → ℕ → ℕ → ℕ → Type 0
-Fields c count free capacity =
-    record {
-      most : capacity ≤ 256;
-      within : vec_len c.rows ≤ capacity;
-      reserved : capacity ≤ vec_capacity c.rows;
-      counted : count ≤ vec_len c.rows;
-      linked : linked_both_ways c (used_rows c count) ≡ true;
-      once : no_row_twice (used_rows c count ++ free_rows c free count) ≡ true;
-      present : all_below (vec_len c.rows) (used_rows c count ++ free_rows c free count) ≡ true;
-      apart : distinct (rows_told c count) ≡ true;
-    }
 
 pub opened : (t : ChainTable) → Intact t.chain t.count (spot t.free) t.capacity (path_of t) (free_rows t.chain (spot t.free) t.count) (rows_of t)
 opened t =
@@ -81,13 +65,6 @@ module _ {c : Chain} {count free capacity : ℕ} {xs sp : List ℕ} {ts : List T
   pub last_spot : Spot c (prev c 256)
   last_spot = on_spot c (prev c 256) xs (omega (arith, s.most, s.within)) below (last_among (next c) (prev c) 256 xs 256 s.link)
 
--- the terms in every row are in range
-ranged : (c : Chain) (i : ℕ) → i < vec_len c.rows → in_range (terms_at c i) ≡ true
-ranged c i h =
-    let rs = vec_items c.rows in
-    let l = length-map rs told_by in
-    All-get_or (λ t. in_range t ≡ true) (map told_by rs) i no_terms (omega (arith, c.rows.ok.0)) (All-map (λ t. in_range t ≡ true) told_by rs (all_of (λ r. in_range (told_by r) ≡ true) (λ r. r.order.ranged) rs))
-
 module _ {c : Chain} {count free capacity : ℕ} {ts : List Terms} (h : Holding c count free capacity ts) where
   path_is : used_rows c count ≡ h.used
   path_is = ap (λ n. walk (next c) n (next c 256)) (sym h.intact.long) ∙ walk_linked (next c) (prev c) 256 h.used 256 h.intact.link
@@ -108,25 +85,9 @@ module _ {c : Chain} {count free capacity : ℕ} {ts : List Terms} (h : Holding 
       let apart = ap distinct list_is ∙ s.apart in
       record { most = s.most; within = s.within; reserved = s.reserved; counted = counted; linked = linked; once = once; present = present; apart = apart }
 
-  pub kept : (room : ℕ) → capacity ≡ room → Kept room capacity (rows_told c count)
-  kept room e =
-      let s = h.intact in
-      let xs = h.used in
-      let long = length-map xs (terms_at c) in
-      let all = All-map (λ t. in_range t ≡ true) (terms_at c) xs (All-weaker (λ i. i < vec_len c.rows) (λ i. in_range (terms_at c i) ≡ true) (ranged c) xs (below s)) in
-      subst (λ ts. Kept room capacity ts) (sym (ap (map (terms_at c)) path_is)) (record {
-        same = e;
-        most = s.most;
-        within = omega (arith, s.long, s.total, s.within);
-        sound = record { few = omega (arith, s.most, s.long, s.total, s.within); apart = ap distinct s.told ∙ s.apart; ranged = all };
-      })
+  pub kept : Kept capacity capacity (rows_told c count)
+  kept = fields_kept c count free capacity closed
 
--- a table as it stands
-pub whole : (t : ChainTable) → Holding t.chain t.count (spot t.free) t.capacity (rows_of t)
-whole t = record { used = path_of t; spare = free_rows t.chain (spot t.free) t.count; intact = opened t }
-
-pub table_kept : (t : ChainTable) → Kept t.capacity t.capacity (rows_of t)
-table_kept t = kept (whole t) t.capacity refl
-
+-- a table tells as many orders as it counts
 pub rows_length : (t : ChainTable) → length (rows_of t) ≡ t.count
 rows_length t = length-map (path_of t) (terms_at t.chain) ∙ (opened t).long

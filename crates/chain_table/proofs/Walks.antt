@@ -7,7 +7,7 @@ use Rattle.std.specs.List.{AllByRecursion}
 use Rattle.book.proofs.General.{all_of}
 use Rattle.chain_table.specs.Chains.{walk, linked_through, among, no_row_twice}
 use Rattle.chain_table.specs.Steps.{Led}
-use Rattle.chain_table.specs.Indices.{other, among_parts, once_parts, once_front, once_out, once_sides}
+use Rattle.chain_table.proofs.Indices.{other, among_parts, once_parts, once_front, once_out, once_sides}
 
 -- what `linked_through` tests
 abbrev pub Linked : (ℕ → ℕ) → (ℕ → ℕ) → ℕ → List ℕ → ℕ → Type 0
@@ -26,10 +26,6 @@ to_linked f g a [] b h = and_from _ _ (eq-eqb _ _ h.0) (eq-eqb _ _ h.1)
 to_linked f g a (x ∷ xs) b h = and_from _ _ (and_from _ _ (eq-eqb _ _ h.0) (eq-eqb _ _ h.1)) (to_linked f g x xs b h.2)
 
 -- a walk, and the list that it gives
-pub length_walk : (f : ℕ → ℕ) (n i : ℕ) → length (walk f n i) ≡ n
-length_walk f zero i = refl
-length_walk f (suc n) i = ap suc (length_walk f n (f i))
-
 pub walk_linked : (f g : ℕ → ℕ) (a : ℕ) (xs : List ℕ) (b : ℕ) → Linked f g a xs b → walk f (length xs) (f a) ≡ xs
 walk_linked f g a [] b h = refl
 walk_linked f g a (x ∷ xs) b h = ap (λ i. i ∷ walk f (length xs) (f i)) h.0 ∙ ap (λ l. x ∷ l) (walk_linked f g x xs b h.2)
