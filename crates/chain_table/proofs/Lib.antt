@@ -1,3 +1,8 @@
+mod Indices
+mod Walks
+mod Intact
+mod Spots
+mod Rests
 mod Seeks
 mod Writes
 mod Moves

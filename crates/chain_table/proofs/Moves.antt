@@ -5,20 +5,20 @@ use Rattle.std.proofs.lemmas.List.{append_assoc, append-nil, length-append, map_
 use Rattle.std.proofs.lemmas.Bool.{or_from, ne_eqb}
 use Rattle.orders.specs.declared.terms.Terms.{Terms}
 use Rattle.book.specs.Lists.{distinct}
-use Rattle.chain_table.specs.Chains.{links_at, next, prev, terms_at, walk, among, no_row_twice}
+use Rattle.chain_table.specs.Chains.{spot, links_at, next, prev, terms_at, walk, among, no_row_twice}
 use Rattle.chain_table.specs.Steps.{Spot, Led, Relinked, Joined, Refilled, Pushed}
 use Rattle.chain_table.specs.declared.chain.Chain.{Chain}
 use Rattle.chain_table.specs.declared.chain.Links.{Links}
-use Rattle.chain_table.specs.Indices.{other, among_parts, once_from, once_front, once_out, once_in, once_sides, all_parts, past_off, Below}
-use Rattle.chain_table.specs.Intact.{Intact, spot}
-use Rattle.chain_table.specs.Walks.{Alike, Linked, first_among, last_among, linked_split, alike_all, alike_off, map_alike, walk_alike, linked_alike, bypass, attach}
+use Rattle.chain_table.proofs.Indices.{other, among_parts, once_from, once_front, once_out, once_in, once_sides, all_parts, past_off, Below}
+use Rattle.chain_table.proofs.Intact.{Intact, on_spot}
+use Rattle.chain_table.proofs.Walks.{Alike, Linked, first_among, last_among, linked_split, alike_all, alike_off, map_alike, walk_alike, linked_alike, bypass, attach}
 
 -- chains whose links are alike, one link of each, and both
 link_alike : (h : Links → ℕ) (c d : Chain) (xs : List ℕ) → Alike (links_at c) (links_at d) xs → Alike (λ i. h (links_at c i)) (λ i. h (links_at d i)) xs
 link_alike h c d = All-weaker (λ i. links_at d i ≡ links_at c i) (λ i. h (links_at d i) ≡ h (links_at c i)) (λ i e. ap h e)
 
 chain_alike : (c d : Chain) (xs : List ℕ) → Alike (links_at c) (links_at d) (256 ∷ xs) → Linked (next c) (prev c) 256 xs 256 → Linked (next d) (prev d) 256 xs 256
-chain_alike c d xs e = linked_alike (next c) (next d) (prev c) (prev d) 256 xs 256 (link_alike (λ l. l.after) c d (256 ∷ xs) e) (link_alike (λ l. l.before) c d (256 ∷ xs) e)
+chain_alike c d xs e = linked_alike (next c) (next d) (prev c) (prev d) 256 xs 256 (link_alike (λ l. spot l.after) c d (256 ∷ xs) e) (link_alike (λ l. spot l.before) c d (256 ∷ xs) e)
 
 -- a walk that gives sp still does
 walk_kept : (f f' : ℕ → ℕ) (sp : List ℕ) (i : ℕ) → Alike f f' sp → walk f (length sp) i ≡ sp → walk f' (length sp) i ≡ sp
@@ -36,13 +36,13 @@ module _ {c : Chain} {count free capacity : ℕ} (xs : List ℕ) (i : ℕ) (ys s
   row_made = split.1.0
 
   pub before_spot : Spot c (prev c i)
-  before_spot = spot c (prev c i) xs split.0 (last_among (next c) (prev c) 256 xs i (linked_split (next c) (prev c) 256 xs i ys 256 s.link).0)
+  before_spot = on_spot c (prev c i) xs (omega (arith, s.most, s.within)) split.0 (last_among (next c) (prev c) 256 xs i (linked_split (next c) (prev c) 256 xs i ys 256 s.link).0)
 
   pub after_spot : Spot c (next c i)
-  after_spot = spot c (next c i) ys (all_parts (λ x. x < vec_len c.rows) ys sp split.1.1).0 (first_among (next c) (prev c) i ys 256 (linked_split (next c) (prev c) 256 xs i ys 256 s.link).1)
+  after_spot = on_spot c (next c i) ys (omega (arith, s.most, s.within)) (all_parts (λ x. x < vec_len c.rows) ys sp split.1.1).0 (first_among (next c) (prev c) i ys 256 (linked_split (next c) (prev c) 256 xs i ys 256 s.link).1)
 
   -- it leaves the chain, and is the first free row
-  pub leave : {c1 c2 : Chain} {l : Links} → l.after ≡ free → Joined c c1 (prev c i) (next c i) → Relinked c1 c2 i l
+  pub leave : {c1 c2 : Chain} {l : Links} → spot l.after ≡ free → Joined c c1 (prev c i) (next c i) → Relinked c1 c2 i l
       → distinct (map (terms_at c) (xs ++ ys)) ≡ true → Intact c2 (count - 1) i capacity (xs ++ ys) (i ∷ sp) (map (terms_at c) (xs ++ ys))
   leave {c1} {c2} {l} e j a d =
       let n = vec_len c.rows in
@@ -61,7 +61,7 @@ module _ {c : Chain} {count free capacity : ℕ} (xs : List ℕ) (i : ℕ) (ys s
       let last = last_among (next c) (prev c) 256 xs i (linked_split (next c) (prev c) 256 xs i ys 256 s.link).0 in
       let past = (among_parts (prev c i) ys sp (once_sides (prev c i) (256 ∷ xs) (ys ++ sp) (subst (λ z. no_row_twice (256 ∷ z) ≡ true) asc whole) last)).1 in
       let free1 = walk_kept (next c) (next c1) sp free (alike_off (next c) (next c1) (prev c i) j.led.ahead_off sp past) s.frees in
-      let free2 = walk_kept (next c1) (next c2) sp free (link_alike (λ z. z.after) c1 c2 sp (alike_off (links_at c1) (links_at c2) i a.off sp o.1)) free1 in
+      let free2 = walk_kept (next c1) (next c2) sp free (link_alike (λ z. spot z.after) c1 c2 sp (alike_off (links_at c1) (links_at c2) i a.off sp o.1)) free1 in
       let len : vec_len c2.rows ≡ n = a.same.len ∙ j.same.len in
       let cap : vec_capacity c2.rows ≡ vec_capacity c.rows = a.same.cap ∙ j.same.cap in
       let lx = length-append xs (i ∷ ys) in
@@ -74,7 +74,7 @@ module _ {c : Chain} {count free capacity : ℕ} (xs : List ℕ) (i : ℕ) (ys s
         long = omega (arith, s.long);
         total = omega (arith, s.long, s.total);
         link = link2;
-        frees = ap (λ z. i ∷ walk (next c2) (length sp) z) (ap (λ z. z.after) a.here ∙ e) ∙ ap (λ z. i ∷ z) free2;
+        frees = ap (λ z. i ∷ walk (next c2) (length sp) z) (ap (λ z. spot z.after) a.here ∙ e) ∙ ap (λ z. i ∷ z) free2;
         once = once_in (xs ++ ys) i sp off once;
         present = subst (λ z. Below z ((xs ++ ys) ++ i ∷ sp)) (sym len) (All-append (λ x. x < n) (xs ++ ys) (i ∷ sp) m.0 (row_made, m.1));
         told = map_alike (terms_at c) (terms_at c2) (xs ++ ys) (alike_all (terms_at c) (terms_at c2) (λ k. a.same.told k ∙ j.same.told k) (xs ++ ys));
@@ -117,14 +117,14 @@ enter {c} {c0} {c1} {c2} {count} {capacity} xs i sp {ts} {t} s r j k d =
     let o = among_parts i xs sp (once_out xs i sp s.once).0 in
     let end = past_off n 256 (xs ++ i ∷ sp) few s.present in
     let whole = once_from 256 (xs ++ i ∷ sp) end s.once in
-    let last0 : prev c0 256 ≡ prev c 256 = ap (λ l. l.before) (r.links 256) in
+    let last0 : prev c0 256 ≡ prev c 256 = ap (λ l. spot l.before) (r.links 256) in
     let led = subst (λ z. Led (next c0) (next c1) (prev c0) (prev c1) z i) (sym last0) j.led in
     let apart = or_from _ _ (ne_eqb i 256 (omega arith)) (among_parts 256 xs (i ∷ sp) end).0 in
     let link0 = chain_alike c c0 xs (alike_all (links_at c) (links_at c0) r.links (256 ∷ xs)) s.link in
     let last = last_among (next c) (prev c) 256 xs 256 s.link in
     let past = (other (prev c 256) i sp (once_sides (prev c 256) (256 ∷ xs) (i ∷ sp) whole last)).1 in
     let frees : walk (next c) (length sp) (next c i) ≡ sp = cc s.frees in
-    let free0 = walk_kept (next c) (next c0) sp (next c i) (link_alike (λ l. l.after) c c0 sp (alike_all (links_at c) (links_at c0) r.links sp)) frees in
+    let free0 = walk_kept (next c) (next c0) sp (next c i) (link_alike (λ l. spot l.after) c c0 sp (alike_all (links_at c) (links_at c0) r.links sp)) frees in
     let free1 = walk_kept (next c0) (next c1) sp (next c i) (alike_off (next c0) (next c1) (prev c 256) j.led.ahead_off sp past) free0 in
     let len : vec_len c2.rows ≡ n = k.same.len ∙ j.same.len ∙ r.len in
     let cap : vec_capacity c2.rows ≡ vec_capacity c.rows = k.same.cap ∙ j.same.cap ∙ r.cap in
@@ -159,7 +159,7 @@ rewrite {c} {d} {count} {free} {capacity} {xs} {sp} s r told apart =
       long = s.long;
       total = omega (arith, s.total, r.len);
       link = chain_alike c d xs (alike_all (links_at c) (links_at d) r.links (256 ∷ xs)) s.link;
-      frees = walk_kept (next c) (next d) sp free (link_alike (λ l. l.after) c d sp (alike_all (links_at c) (links_at d) r.links sp)) s.frees;
+      frees = walk_kept (next c) (next d) sp free (link_alike (λ l. spot l.after) c d sp (alike_all (links_at c) (links_at d) r.links sp)) s.frees;
       once = s.once;
       present = subst (λ z. Below z (xs ++ sp)) (sym r.len) s.present;
       told = told;

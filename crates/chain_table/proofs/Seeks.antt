@@ -1,13 +1,12 @@
 -- What a search along rows says of the terms in them.
-use Rattle.std.proofs.Common.{◌≡◌, ℕ, false, eqb, List, [], ◌∷◌, ◌++◌, map, is_some, Some, None, refl, ap, ◌∙◌, subst, ⊎_elim, arith}
+use Rattle.std.proofs.Common.{◌≡◌, ℕ, zero, suc, slice_get, false, eqb, ◌==◌, find, List, [], ◌∷◌, ◌++◌, map, is_some, option_map, Option, Some, None, refl, ap, ◌∙◌, subst, ⊎_elim, arith}
 use Rattle.std.proofs.lemmas.Bool.{cases_Bool, eqb-true}
 use Rattle.orders.specs.Ranges.{with_quantity}
 use Rattle.orders.specs.declared.terms.Terms.{Terms}
 use Rattle.book.specs.Lists.{held, found, without, lowered}
 use Rattle.chain_table.specs.Chains.{among}
-use Rattle.chain_table.specs.Steps.{first_with}
-use Rattle.chain_table.specs.Indices.{other}
-use Rattle.chain_table.specs.Walks.{alike_off, map_alike}
+use Rattle.chain_table.proofs.Indices.{other}
+use Rattle.chain_table.proofs.Walks.{alike_off, map_alike}
 
 -- the row i of zs is the first with the number
 pub record Seen (n : ℕ) (c : ℕ → Terms) (i : ℕ) (zs : List ℕ) : Type 0 where
@@ -19,7 +18,7 @@ pub record Seen (n : ℕ) (c : ℕ → Terms) (i : ℕ) (zs : List ℕ) : Type 0
   pub leaves : without n (map c zs) ≡ map c (front ++ back)
   pub lowers : (q : ℕ) (c' : ℕ → Terms) → ((j : ℕ) → (j ≡ i → ⊥) → c' j ≡ c j) → c' i ≡ with_quantity (c i) q → among i (front ++ back) ≡ false → map c' zs ≡ lowered n q (map c zs)
 
-pub seen : (n : ℕ) (c : ℕ → Terms) (zs : List ℕ) (i : ℕ) → Some i ≡ first_with n c zs → Seen n c i zs
+pub seen : (n : ℕ) (c : ℕ → Terms) (zs : List ℕ) (i : ℕ) → Some i ≡ find (λ j. (c j).number == n) zs → Seen n c i zs
 seen n c [] i h = let z : ◌≡◌ {A = ℕ} 0 1 = cc in absurd (omega arith)
 seen n c (z ∷ zs) i h =
     ⊎_elim
@@ -49,11 +48,22 @@ seen n c (z ∷ zs) i h =
     (cases_Bool (eqb (c z).number n))
 
 -- no row has the number
-pub unseen : (n : ℕ) (c : ℕ → Terms) (zs : List ℕ) → None ≡ first_with n c zs → found n (map c zs) ≡ None
+pub unseen : (n : ℕ) (c : ℕ → Terms) (zs : List ℕ) → None ≡ find (λ j. (c j).number == n) zs → found n (map c zs) ≡ None
 unseen n c [] h = refl
 unseen n c (z ∷ zs) h =
     ⊎_elim (λ e. let k = rw e at h in let y : ◌≡◌ {A = ℕ} 0 1 = cc in absurd (omega arith)) (λ e. rw e (unseen n c zs (rw e at h))) (cases_Bool (eqb (c z).number n))
 
-pub held_sought : (n : ℕ) (c : ℕ → Terms) (zs : List ℕ) → held n (map c zs) ≡ is_some (first_with n c zs)
+pub held_sought : (n : ℕ) (c : ℕ → Terms) (zs : List ℕ) → held n (map c zs) ≡ is_some (find (λ j. (c j).number == n) zs)
 held_sought n c [] = refl
 held_sought n c (z ∷ zs) = ⊎_elim (λ e. rw e) (λ e. rw e (held_sought n c zs)) (cases_Bool (eqb (c z).number n))
+
+-- the search along the rows, with their terms beside them
+pub sought : (n : ℕ) (c : ℕ → Terms) (zs : List ℕ) (r : Option (ℕ × Terms)) → r ≡ find (λ p. p.1.number == n) (map (λ i. (i, c i)) zs) → option_map (λ p. p.0) r ≡ find (λ j. (c j).number == n) zs
+sought n c [] r h = ap (option_map (λ p. p.0)) h
+sought n c (z ∷ zs) r h = ⊎_elim (λ e. rw e (ap (option_map (λ p. p.0)) h ∙ rw e)) (λ e. rw e (sought n c zs r (h ∙ rw e))) (cases_Bool (eqb (c z).number n))
+
+-- a place of those rows
+pub placed : (c : ℕ → Terms) (zs : List ℕ) (k : ℕ) (r : Option (ℕ × Terms)) → r ≡ slice_get (map (λ i. (i, c i)) zs) k → option_map (λ p. p.1) r ≡ slice_get (map c zs) k
+placed c [] k r h = ap (option_map (λ p. p.1)) h
+placed c (z ∷ zs) zero r h = ap (option_map (λ p. p.1)) h
+placed c (z ∷ zs) (suc k) r h = placed c zs k r h

@@ -1,9 +1,11 @@
 -- What is read of the rows, and what a write of one leaves of the others.
-use Rattle.std.proofs.Common.{◌≡◌, ℕ, ◌<◌, List, [], ◌∷◌, ◌++◌, map, length, get_or, set, vec_items, vec_len, sym, ap, ◌∙◌, ⊎_elim, arith}
+use Rattle.std.proofs.Common.{◌≡◌, ℕ, ◌<◌, Option, List, [], ◌∷◌, ◌++◌, map, length, get_or, set, vec_items, vec_len, sym, ap, ◌∙◌, ⊎_elim, arith}
 use Rattle.std.proofs.lemmas.List.{map-set, get_or-map, set-get_or, get_or-set_same, get_or-set_other, length-map, map_push, get_or_append_left, get_or_past, length_push}
-use Rattle.std.proofs.lemmas.Bool.{cases_lt, ne_eqb}
-use Rattle.chain_table.specs.Chains.{links_of, told_by, links_at, terms_at, no_links, no_terms}
+use Rattle.std.proofs.lemmas.Bool.{cases_eq, cases_lt, ne_eqb}
+use Rattle.chain_table.specs.Chains.{spot, links_of, told_by, links_at, next, prev, terms_at, no_links, no_terms}
 use Rattle.chain_table.specs.declared.chain.Chain.{Chain}
+use Rattle.chain_table.specs.Steps.{Relinked, Joined}
+use Rattle.chain_table.specs.declared.chain.Links.{Links}
 use Rattle.chain_table.specs.declared.chain.Row.{Row}
 
 -- a row that is read
@@ -36,3 +38,19 @@ old_field f xs ys w d i e n =
     ∙ ap (λ l. get_or l i d) (map_push f xs w)
     ∙ ⊎_elim (λ h. get_or_append_left (map f xs) (f w ∷ []) d i (omega arith))
     (λ h. get_or_past (map f xs ++ f w ∷ []) i d (omega arith) ∙ sym (get_or_past (map f xs) i d (omega arith))) (cases_lt i (length xs))
+
+-- b comes to follow a when first the links of a are written, and then those of b
+pub joined : {c c1 d : Chain} {a b : Option ℕ} {la lb : Links} → la ≡ links_at c (spot a) → Relinked c c1 (spot a) (record { before = la.before; after = b })
+    → lb ≡ links_at c1 (spot b) → Relinked c1 d (spot b) (record { before = a; after = lb.after }) → Joined c d (spot a) (spot b)
+joined {c} {c1} {d} {a} {b} e r f s =
+    let ahead : (i : ℕ) → next d i ≡ next c1 i = λ i. ⊎_elim (λ k. ap (next d) k ∙ ap (λ l. spot l.after) s.here ∙ ap (λ l. spot l.after) f ∙ ap (next c1) (sym k)) (λ n. ap (λ l. spot l.after) (s.off i n)) (cases_eq i (spot b)) in
+    let back : (i : ℕ) → prev c1 i ≡ prev c i = λ i. ⊎_elim (λ k. ap (prev c1) k ∙ ap (λ l. spot l.before) r.here ∙ ap (λ l. spot l.before) e ∙ ap (prev c) (sym k)) (λ n. ap (λ l. spot l.before) (r.off i n)) (cases_eq i (spot a)) in
+    record {
+      led = record {
+        ahead = ahead (spot a) ∙ ap (λ l. spot l.after) r.here;
+        back = ap (λ l. spot l.before) s.here;
+        ahead_off = λ i n. ahead i ∙ ap (λ l. spot l.after) (r.off i n);
+        back_off = λ i n. ap (λ l. spot l.before) (s.off i n) ∙ back i;
+      };
+      same = record { told = λ i. s.same.told i ∙ r.same.told i; len = s.same.len ∙ r.same.len; cap = s.same.cap ∙ r.same.cap };
+    }

@@ -1,5 +1,6 @@
--- Rows that are chained by index. The index 256 is no row: it stands before the first row and after the last.
-use Rattle.std.specs.Prelude.{ℕ, zero, suc, ◌-◌, Bool, true, false, cond, not, ◌&&◌, ◌||◌, List, [], ◌∷◌, map, vec_items, vec_len, ◌==◌, nat_lt, slice_index_or}
+-- Rows that are chained by index. The number 256 tells the end, which stands before the first row and after the last.
+use Rattle.std.specs.Prelude.{ℕ, zero, suc, ◌-◌, Bool, true, cond, not, ◌&&◌, List, [], ◌∷◌, map, Option, Some, None, vec_items, vec_len, ◌==◌, nat_lt, slice_index_or}
+use Rattle.std.specs.List.{list_any, list_all}
 use Rattle.orders.specs.Told.{terms_of}
 use Rattle.orders.specs.declared.terms.Kind.TheVariants.{Market}
 use Rattle.orders.specs.declared.terms.Side.TheVariants.{Buy}
@@ -7,6 +8,11 @@ use Rattle.orders.specs.declared.terms.Terms.{Terms}
 use Rattle.chain_table.specs.declared.chain.Chain.{Chain}
 use Rattle.chain_table.specs.declared.chain.Links.{Links}
 use Rattle.chain_table.specs.declared.chain.Row.{Row}
+
+-- the end is told by 256, and a row by its index; what comes after 256 is no row
+abbrev pub spot : Option ℕ → ℕ
+spot None = 256
+spot (Some i) = cond (nat_lt i 256) i (suc i)
 
 -- the neighbours that a row names
 abbrev pub links_of : Row → Links
@@ -18,7 +24,7 @@ told_by r = terms_of r.order
 
 -- the links of what is no row
 abbrev pub no_links : Links
-no_links = record { before = 256; after = 256 }
+no_links = record { before = None; after = None }
 
 -- the terms in what is no row
 abbrev pub no_terms : Terms
@@ -34,11 +40,11 @@ terms_at c i = slice_index_or (map told_by (vec_items c.rows)) i no_terms
 
 -- what follows a row
 abbrev pub next : Chain → ℕ → ℕ
-next c i = (links_at c i).after
+next c i = spot (links_at c i).after
 
 -- what stands before a row
 abbrev pub prev : Chain → ℕ → ℕ
-prev c i = (links_at c i).before
+prev c i = spot (links_at c i).before
 
 -- the first n indices from i on
 abbrev pub walk : (ℕ → ℕ) → ℕ → ℕ → List ℕ
@@ -68,8 +74,7 @@ linked_both_ways c xs = linked_through (next c) (prev c) 256 xs 256
 
 -- n is one of the list
 abbrev pub among : ℕ → List ℕ → Bool
-among n [] = false
-among n (x ∷ xs) = x == n || among n xs
+among n = list_any (λ x. x == n)
 
 -- no two of the list are equal
 abbrev pub no_row_twice : List ℕ → Bool
@@ -78,5 +83,4 @@ no_row_twice (x ∷ xs) = not (among x xs) && no_row_twice xs
 
 -- each of the list is less than n
 abbrev pub all_below : ℕ → List ℕ → Bool
-all_below n [] = true
-all_below n (x ∷ xs) = nat_lt x n && all_below n xs
+all_below n = list_all (λ x. nat_lt x n)

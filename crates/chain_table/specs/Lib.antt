@@ -1,6 +1,4 @@
 pub mod Chains
 pub mod Rows
 pub mod Steps
-pub mod Intact
-pub mod Indices
-pub mod Walks
+pub mod Kept

@@ -1,5 +1,8 @@
 -- What the single steps of the code do.
-use Rattle.std.specs.Prelude.{◌≡◌, ℕ, ◌+◌, ◌<◌, cond, List, [], ◌∷◌, ◌++◌, Some, None, vec_len, vec_capacity, Option, ◌==◌, ◌≢◌}
+use Rattle.std.specs.Prelude.{◌≡◌, ℕ, ◌+◌, ◌<◌, min, cond, List, [], ◌∷◌, ◌++◌, map, Some, vec_len, vec_capacity, Option, ◌==◌, ◌≢◌}
+use Rattle.std.specs.List.{find}
+use Rattle.orders.specs.Told.{terms_of}
+use Rattle.orders.specs.declared.order.Order.{Order}
 use Rattle.orders.specs.declared.terms.Terms.{Terms}
 use Rattle.book.specs.Lists.{without}
 use Rattle.chain_table.specs.Chains.{links_at, terms_at, next, prev, used_rows}
@@ -16,14 +19,26 @@ path_of t = used_rows t.chain t.count
 abbrev pub number_in : ChainTable → ℕ → ℕ
 number_in t i = (terms_at t.chain i).number
 
--- the first of the rows whose terms have the number
-abbrev pub first_with : ℕ → (ℕ → Terms) → List ℕ → Option ℕ
-first_with n c [] = None
-first_with n c (x ∷ xs) = cond ((c x).number == n) (Some x) (first_with n c xs)
-
 -- the row in use that holds the number
 abbrev pub row_holding : ℕ → ChainTable → Option ℕ
-row_holding n t = first_with n (terms_at t.chain) (path_of t)
+row_holding n t = find (λ i. (terms_at t.chain i).number == n) (path_of t)
+
+-- a row that was read, with the terms in it
+abbrev pub row_and_terms : ℕ × Order → ℕ × Terms
+row_and_terms p = (p.0, terms_of p.1)
+
+-- a row with the terms in it
+abbrev pub told_in : Chain → ℕ → ℕ × Terms
+told_in c i = (i, terms_at c i)
+
+-- the rows in use with the terms in them, along the chain
+abbrev pub rows_along : ChainTable → List (ℕ × Terms)
+rows_along t = map (told_in t.chain) (path_of t)
+
+-- the rows of a list from the row i on
+abbrev pub rest_from : ℕ → List ℕ → List ℕ
+rest_from i [] = []
+rest_from i (x ∷ xs) = cond (x == i) (x ∷ xs) (rest_from i xs)
 
 -- that row is `at`
 pub record Holds (t : ChainTable) (number at : ℕ) : Type 0 where
@@ -31,7 +46,7 @@ pub record Holds (t : ChainTable) (number at : ℕ) : Type 0 where
 
 -- a row or the end
 abbrev pub Spot : Chain → ℕ → Type 0
-Spot c i = (i ≢ 256) → i < vec_len c.rows
+Spot c i = (i ≢ 256) → i < min (vec_len c.rows) 256
 
 -- as many rows with the same terms
 pub record SameOrders (c d : Chain) : Type 0 where

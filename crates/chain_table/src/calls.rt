@@ -1,6 +1,6 @@
 // The table as a readable book and as a store.
 ghost use Rattle.chain_table.specs.Rows.{rows_of};
-ghost use Rattle.chain_table.specs.Intact.{table_kept};
+ghost use Rattle.chain_table.specs.Kept.{table_kept};
 
 use crate::table::ChainTable;
 use book::{Book, Store};
@@ -11,11 +11,12 @@ impl Book for ChainTable {
     ghost orders = { rows_of };
 
     fn count(&self) -> usize {
-        self.len()
+        self.count
     }
 
     fn order_at(&self, place: usize) -> Option<Order> {
-        self.row(place)
+        let (_, order) = self.rows_in_use().nth(place)?;
+        Some(order)
     }
 }
 
@@ -27,18 +28,36 @@ impl Store for ChainTable {
     ghost within = { λ s. (table_kept s).within };
 
     fn capacity(&self) -> usize {
-        self.room()
+        self.capacity
     }
 
     fn append(&mut self, order: Order) -> Result<(), Refusal> {
-        self.push(order)
+        if self.row_of(order.terms().number).is_some() {
+            return Err(Refusal::NumberHeld);
+        }
+        if self.count == self.capacity {
+            return Err(Refusal::BookFull);
+        }
+        self.ensure_free_row(order);
+        self.use_free_row(order);
+        Ok(())
     }
 
     fn take_out(&mut self, number: u32) -> Option<Order> {
-        self.remove(number)
+        let at = self.row_of(number)?;
+        let order = self.chain.rows[at].order;
+        self.release(at);
+        Some(order)
     }
 
     fn lower(&mut self, number: u32, quantity: u32) -> bool {
-        self.reduce(number, quantity)
+        let Some(at) = self.row_of(number) else {
+            return false;
+        };
+        let Some(order) = self.chain.rows[at].order.lowered(quantity) else {
+            return false;
+        };
+        self.chain.refill(at, order);
+        true
     }
 }

@@ -1,15 +1,11 @@
 // The rows and how they are chained.
-use orders::capacity::MOST;
 use orders::order::Order;
 
-// The index that is no row: it stands before the first row and after the last.
-pub(crate) const END: usize = MOST;
-
-// The neighbours of a row.
+// The neighbours of a row: none before the first, and none after the last.
 #[derive(Clone, Copy)]
 pub(crate) struct Links {
-    pub(crate) before: usize,
-    pub(crate) after: usize,
+    pub(crate) before: Option<usize>,
+    pub(crate) after: Option<usize>,
 }
 
 // A free row keeps its last order; its `after` is the next free row.
@@ -19,7 +15,7 @@ pub(crate) struct Row {
     pub(crate) links: Links,
 }
 
-// The last row stands before the end, and the first after it.
+// The chain is a ring that the end closes: the last row stands before it, and the first after it.
 #[derive(Drop)]
 pub(crate) struct Chain {
     pub(crate) rows: Vec<Row>,

@@ -6,3 +6,4 @@ mod chain;
 mod links;
 pub mod rows;
 pub mod table;
+mod walk;

@@ -1,41 +1,39 @@
 // Single steps on a chain, which may break it for the next step to mend.
 ghost use Rattle.std.specs.Prelude.{◌≡◌, ◌<◌, vec_len, vec_capacity};
 ghost use Rattle.orders.specs.Told.{terms_of};
-ghost use Rattle.chain_table.specs.Chains.{links_at};
+ghost use Rattle.chain_table.specs.Chains.{spot, links_at};
 ghost use Rattle.chain_table.specs.Steps.{Spot, Relinked, Joined, Refilled, Pushed};
 
-use crate::chain::{Chain, END, Links, Row};
+use crate::chain::{Chain, Links, Row};
 use orders::order::Order;
 
 impl Chain {
     // The neighbours of a row, or of the end.
-    pub(crate) fn neighbours(&self, at: usize) -> Links
-        requires { Spot self.now at }
-        ensures { result ≡ links_at self.now at }
+    pub(crate) fn neighbours(&self, at: Option<usize>) -> Links
+        requires { Spot self.now (spot at) }
+        ensures { result ≡ links_at self.now (spot at) }
     {
-        if at == END {
-            self.ends
-        } else {
-            self.rows[at].links
+        match at {
+            Some(row) => self.rows[row].links,
+            None => self.ends,
         }
     }
 
-    pub(crate) fn relink(&mut self, at: usize, links: Links)
-        requires { Spot self.old at }
-        ensures { Relinked self.old self.new at links }
+    pub(crate) fn relink(&mut self, at: Option<usize>, links: Links)
+        requires { Spot self.old (spot at) }
+        ensures { Relinked self.old self.new (spot at) links }
     {
-        if at == END {
-            self.ends = links;
-        } else {
-            self.rows[at].links = links;
+        match at {
+            Some(row) => self.rows[row].links = links,
+            None => self.ends = links,
         }
     }
 
     // Makes `b` follow `a`.
-    pub(crate) fn join(&mut self, a: usize, b: usize)
-        requires first { Spot self.old a }
-        requires second { Spot self.old b }
-        ensures { Joined self.old self.new a b }
+    pub(crate) fn join(&mut self, a: Option<usize>, b: Option<usize>)
+        requires first { Spot self.old (spot a) }
+        requires second { Spot self.old (spot b) }
+        ensures { Joined self.old self.new (spot a) (spot b) }
     {
         let before = self.neighbours(a).before;
         self.relink(a, Links { before, after: b });
@@ -57,8 +55,8 @@ impl Chain {
         ensures { Pushed self.old self.new }
     {
         let links = Links {
-            before: END,
-            after: END,
+            before: None,
+            after: None,
         };
         self.rows.push_reserved(Row { order, links });
     }

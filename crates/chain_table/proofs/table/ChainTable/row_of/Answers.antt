@@ -1,32 +1,21 @@
-use Rattle.std.proofs.Common.{sym, refl, ap, ◌∙◌, arith}
-use Rattle.std.proofs.lemmas.List.{at_drop_all}
+use Rattle.std.proofs.Common.{◌≡◌, ◌==◌, rules, option_map, ap, sym, ◌∙◌}
+use Rattle.std.proofs.lemmas.Iterator.Consumers.{YieldsList-from_first}
+use Rattle.std.proofs.lemmas.Iterator.Search.{find_from_yields_List}
+use borrow.Author.Tests.{tests}
 use Rattle.chain_table.specs.Chains.{terms_at}
-use Rattle.chain_table.specs.Steps.{path_of, first_with}
-use Rattle.chain_table.specs.Intact.{opened, path_start, path_row}
-use Rattle.chain_table.proofs.Tables.{OnPath, next_there, seek_here, seek_next}
+use Rattle.chain_table.specs.Steps.{path_of, row_and_terms, row_holding}
+use Rattle.chain_table.proofs.Seeks.{sought}
 use Rattle.chain_table.proofs.table.ChainTable.row_of.Goals as goal
-use Rattle.chain_table.proofs.table.ChainTable.row_of.Goals.{After-terms}
+use Rattle.chain_table.proofs.table.ChainTable.row_of.Goals.{After-find}
 
-pub loop-step-init : goal.loop-step-init
-loop-step-init c = (path_start c.args.self.now, refl)
+-- what the search found
+found : (c : After-find) → option_map (λ p. p.0) (option_map row_and_terms c.find.result) ≡ row_holding c.args.number c.args.self.now
+found c =
+    let t = c.args.self.now in
+    sought c.args.number (terms_at t.chain) (path_of t) _ (find_from_yields_List (λ p. p.1.number == c.args.number) _ _ c.find.result c.find.ensures.ran (YieldsList-from_first row_and_terms (λ left. left) _ c.rows_in_use.ensures) (λ x b q k. search (rules, tests)))
 
-pub index-row-requires : goal.index-row-requires
-index-row-requires c = omega (arith, c.loop-step.invariant.0, path_row c.args.self.now c.loop-step._step (omega arith))
-
-read : (c : After-terms) → OnPath c.args.self.now c.loop-step._step c.loop-step.at c.index-row.result.now
-read c = record { within = omega arith; here = c.loop-step.invariant.0; read = c.index-row.ensures }
-
-pub returns-then-terms-number : goal.returns-then-terms-number
-returns-then-terms-number c =
-    let same = ap (λ t. t.number) (sym c.terms.ensures) ∙ c.if-terms-number.true in
-    sym (seek_here c.args.number (read (goal.at.returns-then-terms-number c).After-terms) same) ∙ c.loop-step.invariant.1
-
-pub loop-step-preserved : goal.loop-step-preserved
-loop-step-preserved c =
-    let r = read (goal.at.loop-step-preserved c).After-terms in
-    (next_there r, sym (seek_next c.args.number r (λ e. c.if-terms-number.false (ap (λ t. t.number) c.terms.ensures ∙ e))) ∙ c.loop-step.invariant.1)
+pub returns-in_err-at : goal.returns-in_err-at
+returns-in_err-at c = c.from_residual.ensures ∙ ap (λ r. option_map (λ p. p.0) (option_map row_and_terms r)) (sym c.in_err-at.was) ∙ found (goal.at.returns-in_err-at c).After-find
 
 pub returns : goal.returns
-returns c =
-    let t = c.args.self.now in
-    sym (at_drop_all (first_with c.args.number (terms_at t.chain)) (path_of t) c.loop-step._step (omega (arith, (opened t).long))) ∙ c.loop-step.invariant.1
+returns c = ap (λ r. option_map (λ p. p.0) (option_map row_and_terms r)) (sym c.in_ok-at.was) ∙ found (goal.at.returns c).After-find

@@ -1,8 +1,0 @@
-use Rattle.std.proofs.Common.{sym}
-use Rattle.chain_table.specs.Intact.{rows_length, table_kept}
-use Rattle.chain_table.proofs.table.ChainTable.len.Goals as goal
-
-pub returns : goal.returns
-returns c =
-    let t = c.args.self.now in
-    record { value = sym (rows_length t); sound = (table_kept t).sound }

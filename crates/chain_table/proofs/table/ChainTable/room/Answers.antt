@@ -1,6 +1,0 @@
-use Rattle.std.proofs.Common.{refl}
-use Rattle.chain_table.specs.Intact.{table_kept}
-use Rattle.chain_table.proofs.table.ChainTable.room.Goals as goal
-
-pub returns : goal.returns
-returns c = record { value = refl; kept = table_kept c.args.self.now }

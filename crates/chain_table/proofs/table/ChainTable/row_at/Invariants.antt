@@ -1,6 +1,0 @@
-use Rattle.std.proofs.Common.{◌≡◌, get_or}
-use Rattle.chain_table.specs.Steps.{path_of}
-use Rattle.chain_table.proofs.table.ChainTable.row_at.Given as goal
-
-abbrev pub invariant-loop-step : goal.invariant-loop-step
-invariant-loop-step l = l.at ≡ get_or (path_of l.self) l._step 256
