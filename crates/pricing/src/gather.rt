@@ -7,6 +7,7 @@ use crate::listing::Listing;
 use crate::quote::Quote;
 use crate::stops::made_ready;
 use book::Book;
+use book::iter::orders_of;
 use orders::capacity::MOST;
 use orders::terms::{Kind, Side, Terms};
 
@@ -86,10 +87,8 @@ fn part<B: Book>(book: &B, quote: Quote) -> Parted
         staying: Listing::new(),
         triggered: Listing::new(),
     };
-    let mut place = 0;
-    while let Some(order) = book.order_at(place) {
+    for order in orders_of(book) {
         parted.add(quote, order.terms());
-        place += 1;
     }
     parted
 }
