@@ -2,15 +2,17 @@
 ghost use Rattle.std.specs.Prelude.{◌≡◌};
 ghost use Rattle.orders.specs.Forms.{type_of, same_form};
 
-#[derive(Clone, Copy, PartialEq, Eq, Debug)]
+#[derive(Clone, Copy, PartialEq, Eq, Debug, Default)]
 pub enum Side {
+    #[default]
     Buy,
     Sell,
 }
 
 // The kind of an order, with just the prices that this kind has.
-#[derive(Clone, Copy, PartialEq, Eq, Debug)]
+#[derive(Clone, Copy, PartialEq, Eq, Debug, Default)]
 pub enum Kind {
+    #[default]
     Market,
     Limit { limit: u32 },
     StopMarket { stop: u32 },
@@ -39,8 +41,8 @@ impl Kind {
     }
 }
 
-// What an order says; `quantity` is what is still open.
-#[derive(Clone, Copy, PartialEq, Eq, Debug)]
+// What an order says; `quantity` is what is still open. The default fills the unused places of a fixed list.
+#[derive(Clone, Copy, PartialEq, Eq, Debug, Default)]
 pub struct Terms {
     pub number: u32,
     pub participant: u16,
