@@ -1,44 +1,16 @@
--- What the steps of the code compute: lists in arrays, and the best of the levels so far.
-use Rattle.std.specs.Prelude.{◌≡◌, ℕ, ◌+◌, ◌-◌, ◌≤◌, min, max, cond, ◌&&◌, List, [], ◌∷◌, ◌++◌, length, take, fold, nat_lt}
+-- What the steps of the code compute: the orders in lists, and the best of the levels so far.
+use Rattle.std.specs.Prelude.{ℕ, ◌-◌, ◌≤◌, min, max, cond, ◌&&◌, List, ◌∷◌, length, fold, nat_lt}
 use Rattle.std.specs.List.{AllByRecursion}
 use Rattle.orders.specs.declared.terms.Terms.{Terms}
-use Rattle.book.specs.Lists.{Sound}
 use Rattle.pricing.specs.Depth.{demand_at, supply_at, limit_levels}
 use Rattle.pricing.specs.Price.{midpoint}
-use Rattle.pricing.specs.Stops.{staying_orders, triggered_orders, after_stops, stop_count}
 use Rattle.pricing.specs.declared.best.Best.{Best}
-use Rattle.pricing.specs.declared.gather.Gathered.{Gathered}
-use Rattle.pricing.specs.declared.gather.Parted.{Parted}
-use Rattle.pricing.specs.declared.listing.Listing.{Listing}
 use Rattle.pricing.specs.declared.quote.Quote.{Quote}
-
--- the orders that a listing holds
-abbrev pub listed : Listing → List Terms
-listed l = take l.count l.orders
 
 -- so few orders, with so few shares, that their sum fits
 pub record Bounded (ts : List Terms) : Type 0 where
   pub few : length ts ≤ 256
   pub small : AllByRecursion (λ t. t.quantity ≤ 1000000) ts
-
--- one more order taken in: it stays, or it is triggered
-pub record Added (q : Quote) (t : Terms) (before after : Parted) : Type 0 where
-  pub staying : listed after.staying ≡ listed before.staying ++ staying_orders q (t ∷ [])
-  pub triggered : listed after.triggered ≡ listed before.triggered ++ triggered_orders q (t ∷ [])
-  pub len : after.staying.count + after.triggered.count ≡ before.staying.count + before.triggered.count + 1
-
--- the orders of a book, parted
-pub record Parts (q : Quote) (ts : List Terms) (parted : Parted) : Type 0 where
-  pub staying : listed parted.staying ≡ staying_orders q ts
-  pub triggered : listed parted.triggered ≡ triggered_orders q ts
-  pub len : parted.staying.count + parted.triggered.count ≡ length ts
-  pub sound : Sound ts
-
--- the orders of a book after the stops
-pub record Ready (q : Quote) (ts : List Terms) (gathered : Gathered) : Type 0 where
-  pub value : listed gathered.ready ≡ after_stops q ts
-  pub stops : gathered.stops ≡ stop_count q ts
-  pub bounded : Bounded (after_stops q ts)
 
 -- the best of one level, by its demand and supply
 abbrev pub lone_best : ℕ → ℕ → ℕ → Best

@@ -7,7 +7,7 @@ ghost use Rattle.pricing.specs.Law.{Fair};
 ghost use Rattle.pricing.specs.Steps.{Bounded};
 ghost use Rattle.pricing.specs.Stops.{after_stops};
 
-use crate::gather::gather;
+use crate::gather::after_stops;
 use crate::quote::{MatchingQuote, Quote};
 use book::Book;
 use orders::refusal::Refusal;
@@ -54,8 +54,8 @@ pub fn trial<B: Book>(settings: Settings, book: &B, quote: MatchingQuote) -> Tri
     ensures value { result ≡ trial_of (grid_of settings).tick quote.quote (B.Book.orders book.now) }
     ensures fair { Fair quote.quote (after_stops quote.quote (B.Book.orders book.now)) result }
 {
-    let gathered = gather(book, quote.quote);
-    auction(settings, quote, gathered.ready.as_slice(), gathered.stops)
+    let (orders, stops) = after_stops(book, quote.quote);
+    auction(settings, quote, orders.as_slice(), stops)
 }
 
 // The price under a quote as it is sent.
