@@ -3,11 +3,12 @@ ghost use Rattle.std.specs.Prelude.{◌≡◌, ◌≤◌};
 ghost use Rattle.std.specs.Option.{option_to_list};
 ghost use Rattle.orders.specs.Told.{grid_of};
 ghost use Rattle.pricing.specs.Depth.{level_of};
-ghost use Rattle.pricing.specs.Steps.{Bounded, lone_best, tied_best, better_of, best_at, best_with, best_of, chosen_price};
+ghost use Rattle.pricing.specs.Steps.{lone_best, tied_best, better_of, best_at, best_of, chosen_price};
 
-use crate::quote::{MatchingQuote, Quote};
+use crate::gather::Crossing;
+use crate::quote::Quote;
 use orders::settings::Settings;
-use orders::terms::{Kind, Side, Terms};
+use orders::terms::{Kind, Side};
 
 // The best of some levels: most shares, then least difference.
 #[derive(Clone, Copy)]
@@ -98,37 +99,26 @@ impl Quote {
     }
 }
 
-impl MatchingQuote {
+impl Crossing {
     // A price as the best of its own.
-    fn best_at(self, orders: &[Terms], price: u32) -> Best
-        requires { Bounded orders.now }
-        ensures { result ≡ best_at self.quote orders.now price }
+    fn best_at(&self, price: u32) -> Best
+        ensures { result ≡ best_at self.now.quote.quote self.now.orders.items price }
     {
-        let demand = self.depth_at(orders, Side::Buy, price);
-        let supply = self.depth_at(orders, Side::Sell, price);
+        let demand = self.depth_at(Side::Buy, price);
+        let supply = self.depth_at(Side::Sell, price);
         Best::lone(price, demand, supply)
     }
 
-    // The best so far and the level that an order of a kind adds.
-    fn best_with(self, orders: &[Terms], best: Best, kind: Kind) -> Best
-        requires { Bounded orders.now }
-        ensures { result ≡ best_with self.quote orders.now best (level_of self.quote kind) }
-    {
-        match self.quote.level_of(kind) {
-            Some(level) => best.better(self.best_at(orders, level)),
-            None => best,
-        }
-    }
-
     // The best of all levels.
-    pub(crate) fn best_of(self, orders: &[Terms]) -> Best
-        requires { Bounded orders.now }
-        ensures { result ≡ best_of self.quote orders.now }
+    pub(crate) fn best(&self) -> Best
+        ensures { result ≡ best_of self.now.quote.quote self.now.orders.items }
     {
-        let bid = self.best_at(orders, self.quote.bid);
-        let mut best = bid.better(self.best_at(orders, self.quote.ask));
-        for terms in orders {
-            best = self.best_with(orders, best, terms.kind);
+        let Quote { bid, ask, .. } = self.quote.quote;
+        let mut best = self.best_at(bid).better(self.best_at(ask));
+        for terms in self.orders.as_slice() {
+            if let Some(level) = self.quote.quote.level_of(terms.kind) {
+                best = best.better(self.best_at(level));
+            }
         }
         best
     }

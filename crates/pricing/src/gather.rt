@@ -1,10 +1,11 @@
 // The orders of a book, gathered in one pass.
 ghost use Rattle.std.specs.Prelude.{◌≡◌};
 ghost use Rattle.book.specs.Lists.{Sound};
+ghost use Rattle.std.proofs.Props.{props};
 ghost use Rattle.pricing.specs.Steps.{Bounded};
 ghost use Rattle.pricing.specs.Stops.{staying_orders, triggered_orders, after_stops, stop_count};
 
-use crate::quote::Quote;
+use crate::quote::{MatchingQuote, Quote};
 use crate::stops::made_ready;
 use arrayvec::ArrayVec;
 use book::Book;
@@ -47,16 +48,30 @@ pub fn triggered_orders<B: Book>(book: &B, quote: Quote) -> ArrayVec<Terms, MOST
     part(book, quote).triggered
 }
 
-// The orders of a book after the stops, and how many stops were triggered.
-pub(crate) fn after_stops<B: Book>(book: &B, quote: Quote) -> (ArrayVec<Terms, MOST>, usize)
-    ensures orders { result.0.items ≡ after_stops quote (B.Book.orders book.now) }
-    ensures stops { result.1 ≡ stop_count quote (B.Book.orders book.now) }
-    ensures bounded { Bounded result.0.items }
+// The orders of a book after the stops that a quote triggers, under this quote.
+#[derive(Drop)]
+pub(crate) struct Crossing {
+    pub(crate) quote: MatchingQuote,
+    pub(crate) orders: ArrayVec<Terms, MOST>,
+    // how many stops were triggered
+    pub(crate) stops: usize,
+    ghost bounded: { Bounded orders.items } by { Prim.hlevel props },
+}
+
+// Reads a book once, and triggers its stops.
+pub(crate) fn cross<B: Book>(book: &B, quote: MatchingQuote) -> Crossing
+    ensures quote { result.quote ≡ quote }
+    ensures orders { result.orders.items ≡ after_stops quote.quote (B.Book.orders book.now) }
+    ensures stops { result.stops ≡ stop_count quote.quote (B.Book.orders book.now) }
 {
     let Parted {
         staying: mut orders,
         triggered,
-    } = part(book, quote);
+    } = part(book, quote.quote);
     orders.try_extend_from_slice(triggered.as_slice()).unwrap();
-    (orders, triggered.len())
+    Crossing {
+        quote,
+        orders,
+        stops: triggered.len(),
+    }
 }
