@@ -2,6 +2,7 @@
 use Rattle.std.proofs.Common.{◌≡◌, ℕ, zero, suc, ◌+◌, ◌-◌, ◌/◌, ◌<◌, ◌≤◌, min, Bool, true, false, cond, ◌&&◌, eqb, leb, List, [], ◌∷◌, ℤ, pos, ◌-ℤ◌, sum_by, sym, refl, ap, ◌∙◌, subst, ⊎_elim, div-mul-le_self, arith}
 use Rattle.std.proofs.ByRecursion.{All-weaker}
 use Rattle.std.proofs.lemmas.Bool.{leb-true, le-leb, eqb-true, eqb-false, eq-eqb, ne_eqb, and_parts, and_from, cases_Bool, cases_eq}
+use Rattle.std.specs.Ordering.{is_gt, is_lt}
 use Rattle.std.specs.List.{AllByRecursion}
 use Rattle.orders.specs.declared.terms.Kind.{Kind}
 use Rattle.orders.specs.declared.terms.Kind.TheVariants.{Market, Limit, StopMarket, StopLimit}
@@ -126,7 +127,7 @@ module _ (q : Quote) (ts : List Terms) where
   choice tick low high false false h = (omega arith, omega (arith, div-mul-le_self ((low + high) / 2) tick))
 
   chosen_between : (tick : ℕ) → (best.lowest ≤ chosen_price tick best) × (chosen_price tick best ≤ best.highest)
-  chosen_between tick = choice tick best.lowest best.highest best.above best.below (low_high (demand_at q ts) (supply_at q ts) (levels_of q ts) best best_leads)
+  chosen_between tick = choice tick best.lowest best.highest (is_gt best.lean) (is_lt best.lean) (low_high (demand_at q ts) (supply_at q ts) (levels_of q ts) best best_leads)
 
   -- the answer, told by the best level
   auction_is : (tick n : ℕ) → auction_of tick q ts n ≡ cond (eqb best.shares 0) (Unpriced n) (priced_at q ts n (chosen_price tick best))

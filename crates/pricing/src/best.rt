@@ -9,6 +9,7 @@ use crate::gather::Crossing;
 use crate::quote::Quote;
 use orders::settings::Settings;
 use orders::terms::{Kind, Side};
+use std::cmp::Ordering;
 
 // The best of some levels: most shares, then least difference.
 #[derive(Clone, Copy)]
@@ -18,9 +19,8 @@ pub(crate) struct Best {
     // the lowest and the highest of the levels that are as good
     pub(crate) lowest: u32,
     pub(crate) highest: u32,
-    // is demand above supply at all of these, or below?
-    pub(crate) above: bool,
-    pub(crate) below: bool,
+    // how demand compares to supply, if it does so at all of these alike, and else `Equal`
+    pub(crate) lean: Ordering,
 }
 
 impl Best {
@@ -34,8 +34,7 @@ impl Best {
             difference: demand.max(supply) - shares,
             lowest: price,
             highest: price,
-            above: supply < demand,
-            below: demand < supply,
+            lean: demand.cmp(&supply),
         }
     }
 
@@ -48,8 +47,11 @@ impl Best {
             difference: self.difference,
             lowest: self.lowest.min(other.lowest),
             highest: self.highest.max(other.highest),
-            above: self.above && other.above,
-            below: self.below && other.below,
+            lean: if self.lean == other.lean {
+                self.lean
+            } else {
+                Ordering::Equal
+            },
         }
     }
 
@@ -57,16 +59,14 @@ impl Best {
     fn better(self, other: Best) -> Best
         ensures { result ≡ better_of self other }
     {
-        if self.shares < other.shares {
-            other
-        } else if other.shares < self.shares {
-            self
-        } else if other.difference < self.difference {
-            other
-        } else if self.difference < other.difference {
-            self
-        } else {
-            self.tied(other)
+        let order = self
+            .shares
+            .cmp(&other.shares)
+            .then(other.difference.cmp(&self.difference));
+        match order {
+            Ordering::Less => other,
+            Ordering::Equal => self.tied(other),
+            Ordering::Greater => self,
         }
     }
 
@@ -75,14 +75,14 @@ impl Best {
         requires { (self.lowest ≤ 1000000000) × (self.highest ≤ 1000000000) }
         ensures { result ≡ chosen_price (grid_of settings).tick self }
     {
-        if self.above {
-            self.highest
-        } else if self.below {
-            self.lowest
-        } else {
-            let tick = settings.tick();
-            self.lowest
-                .max((self.lowest + self.highest) / 2 / tick * tick)
+        match self.lean {
+            Ordering::Greater => self.highest,
+            Ordering::Less => self.lowest,
+            Ordering::Equal => {
+                let tick = settings.tick();
+                self.lowest
+                    .max((self.lowest + self.highest) / 2 / tick * tick)
+            }
         }
     }
 }
