@@ -1,6 +1,5 @@
 // The best of the levels.
 ghost use Rattle.std.specs.Prelude.{◌≡◌, ◌≤◌};
-ghost use Rattle.std.specs.Option.{option_to_list};
 ghost use Rattle.orders.specs.Told.{grid_of};
 ghost use Rattle.pricing.specs.Depth.{level_of};
 ghost use Rattle.pricing.specs.Steps.{lone_best, tied_best, better_of, best_at, best_of, chosen_price};
@@ -90,7 +89,7 @@ impl Best {
 impl Quote {
     // The level that an order of a kind adds.
     fn level_of(self, kind: Kind) -> Option<u32>
-        ensures { option_to_list result ≡ level_of self kind }
+        ensures { result ≡ level_of self kind }
     {
         match kind {
             Kind::Limit { limit } if self.bid <= limit && limit <= self.ask => Some(limit),
@@ -113,13 +112,11 @@ impl Crossing {
     pub(crate) fn best(&self) -> Best
         ensures { result ≡ best_of self.now.quote.quote self.now.orders.items }
     {
-        let Quote { bid, ask, .. } = self.quote.quote;
-        let mut best = self.best_at(bid).better(self.best_at(ask));
-        for terms in self.orders.as_slice() {
-            if let Some(level) = self.quote.quote.level_of(terms.kind) {
-                best = best.better(self.best_at(level));
-            }
-        }
-        best
+        let quote = self.quote.quote;
+        let ends = self.best_at(quote.bid).better(self.best_at(quote.ask));
+        self.orders
+            .iter()
+            .filter_map(|terms| quote.level_of(terms.kind))
+            .fold(ends, |best, level| best.better(self.best_at(level)))
     }
 }
