@@ -13,7 +13,7 @@ use orders::refusal::Refusal;
 use orders::settings::Settings;
 use orders::terms::Side;
 
-// A price with its shares and its surplus, which is demand less supply, or no price; and how many stops were triggered.
+// The answer is one of two: a price with its shares and its surplus, which is demand less supply, or no price. Beside either stands how many stops were triggered.
 #[derive(Clone, Copy, PartialEq, Eq, Debug)]
 pub enum TrialPrice {
     Priced {
@@ -58,15 +58,6 @@ pub fn trial<B: Book>(settings: Settings, book: &B, quote: MatchingQuote) -> Tri
     cross(book, quote).price(settings)
 }
 
-// The price under a quote as it is sent.
-fn answer<B: Book>(settings: Settings, book: &B, quote: Quote) -> Result<TrialPrice, Refusal>
-    ensures value { result ≡ trial_answer (grid_of settings) quote (B.Book.orders book.now) }
-    ensures fair { IfOk result (Fair quote (after_stops quote (B.Book.orders book.now))) }
-{
-    let matching = MatchingQuote::new(settings, quote)?;
-    Ok(trial(settings, book, matching))
-}
-
 // The price that a match under this quote would find, or none; the book stays as it is.
 pub fn trial_price<B: Book>(
     settings: Settings,
@@ -77,5 +68,6 @@ pub fn trial_price<B: Book>(
     ensures fair { IfOk result (Fair quote (after_stops quote (B.Book.orders book.now))) }
     ensures examples { ExamplesHold }
 {
-    answer(settings, book, quote)
+    let matching = MatchingQuote::new(settings, quote)?;
+    Ok(trial(settings, book, matching))
 }
