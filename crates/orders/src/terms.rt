@@ -3,8 +3,9 @@ ghost use Rattle.std.specs.Prelude.{◌≡◌};
 ghost use Rattle.orders.specs.Codes.{IsSideOf, IsTypeOf};
 ghost use Rattle.orders.specs.Forms.{type_of, limit_of, stop_of, same_form};
 
-#[derive(Clone, Copy, PartialEq, Eq, Debug)]
+#[derive(Clone, Copy, PartialEq, Eq, Debug, Default)]
 pub enum Side {
+    #[default]
     Buy,
     Sell,
 }
@@ -28,8 +29,9 @@ impl TryFrom<u8> for Side {
 }
 
 // The kind of an order, with just the prices that this kind has.
-#[derive(Clone, Copy, PartialEq, Eq, Debug)]
+#[derive(Clone, Copy, PartialEq, Eq, Debug, Default)]
 pub enum Kind {
+    #[default]
     Market,
     Limit { limit: u32 },
     StopMarket { stop: u32 },
@@ -94,8 +96,8 @@ impl Kind {
     }
 }
 
-// What an order says; `quantity` is what is still open.
-#[derive(Clone, Copy, PartialEq, Eq, Debug)]
+// What an order says; `quantity` is what is still open. The default fills the unused places of a fixed list.
+#[derive(Clone, Copy, PartialEq, Eq, Debug, Default)]
 pub struct Terms {
     pub number: u32,
     pub participant: u16,

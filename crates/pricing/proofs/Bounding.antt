@@ -1,5 +1,5 @@
 -- The orders of a book after the stops are as many, and their volume fits.
-use Rattle.std.proofs.Common.{◌≡◌, ℕ, ◌≤◌, Bool, true, false, cond, not, List, length, sum_by, filter, refl, ◌∙◌, arith}
+use Rattle.std.proofs.Common.{◌≡◌, ℕ, ◌+◌, ◌≤◌, Bool, true, false, cond, not, List, length, sum_by, filter, refl, ◌∙◌, arith}
 use Rattle.std.proofs.ByRecursion.{All-weaker, All-append, all_kept_by, All-map, sum_by_le}
 use Rattle.std.proofs.lemmas.List.Filters.{length-filter_both}
 use Rattle.std.proofs.lemmas.List.{length-append, length-map}
@@ -24,9 +24,12 @@ volume_most side p ts b = omega (arith, sum_by_le (open_at side p) 1000000 ts (A
 pub triggered_length : (q : Quote) (ts : List Terms) → length (triggered_orders q ts) ≡ stop_count q ts
 triggered_length q ts = length-map (filter (triggered_by q) ts) made_ready ∙ length-filter (triggered_by q) ts
 
+pub parts_length : (q : Quote) (ts : List Terms) → length (staying_orders q ts) + length (triggered_orders q ts) ≡ length ts
+parts_length q ts =
+    omega (arith, length-map (filter (triggered_by q) ts) made_ready, length-filter_both (triggered_by q) (λ t. not (triggered_by q t)) (λ _. refl) ts)
+
 pub after_length : (q : Quote) (ts : List Terms) → length (after_stops q ts) ≡ length ts
-after_length q ts =
-    omega (arith, length-append (staying_orders q ts) (triggered_orders q ts), length-map (filter (triggered_by q) ts) made_ready, length-filter_both (triggered_by q) (λ t. not (triggered_by q t)) (λ _. refl) ts)
+after_length q ts = length-append (staying_orders q ts) (triggered_orders q ts) ∙ parts_length q ts
 
 small : (t : Terms) → in_range t ≡ true → t.quantity ≤ 1000000
 small t h = grind (arith, nat_tests)

@@ -1,14 +1,15 @@
 -- The law of the price.
-use Rattle.std.proofs.Common.{◌≡◌, ℕ, zero, suc, ◌+◌, ◌-◌, ◌/◌, ◌<◌, ◌≤◌, min, Bool, true, false, cond, ◌&&◌, eqb, leb, List, [], ◌∷◌, ℤ, pos, ◌-ℤ◌, sum_by, sym, refl, ap, ◌∙◌, subst, ⊎_elim, div-mul-le_self, arith}
+use Rattle.std.proofs.Common.{◌≡◌, ℕ, zero, suc, ◌+◌, ◌-◌, ◌/◌, ◌<◌, ◌≤◌, min, Bool, true, false, cond, ◌&&◌, eqb, leb, List, ◌∷◌, Some, None, IfSome, ℤ, pos, ◌-ℤ◌, sum_by, sym, refl, ap, ◌∙◌, subst, ⊎_elim, div-mul-le_self, arith}
 use Rattle.std.proofs.ByRecursion.{All-weaker}
 use Rattle.std.proofs.lemmas.Bool.{leb-true, le-leb, eqb-true, eqb-false, eq-eqb, ne_eqb, and_parts, and_from, cases_Bool, cases_eq}
+use Rattle.std.specs.Ordering.{is_gt, is_lt}
 use Rattle.std.specs.List.{AllByRecursion}
 use Rattle.orders.specs.declared.terms.Kind.{Kind}
 use Rattle.orders.specs.declared.terms.Kind.TheVariants.{Market, Limit, StopMarket, StopLimit}
 use Rattle.orders.specs.declared.terms.Side.{Side}
 use Rattle.orders.specs.declared.terms.Side.TheVariants.{Buy, Sell}
 use Rattle.orders.specs.declared.terms.Terms.{Terms}
-use Rattle.pricing.proofs.Filters.{all_every, all_joined, joined_all, sum_le, seek}
+use Rattle.pricing.proofs.Filters.{all_every, all_added, added_all, sum_le, seek}
 use Rattle.pricing.proofs.Running.{Leads, leads, low_all, high_all, low_shares, high_shares, low_high, none_is, rule_is}
 use Rattle.pricing.specs.Answers.{priced_at, auction_of}
 use Rattle.pricing.specs.Depth.{limit_takes, kind_takes, open_at, demand_at, supply_at, shares_at, from_bid_to_ask, level_of, limit_levels, levels_of}
@@ -37,11 +38,11 @@ kind_still side (StopMarket s) x y h e = e
 kind_still side (StopLimit l s) x y h e = e
 
 -- a buy that takes x, which is from bid to ask and not its limit, takes x + 1
-next_takes : (q : Quote) (x : ℕ) → from_bid_to_ask q x ≡ true → (k : Kind) → AllByRecursion (λ r. eqb r x ≡ false) (level_of q k) → kind_takes Buy k x ≡ true → kind_takes Buy k (x + 1) ≡ true
+next_takes : (q : Quote) (x : ℕ) → from_bid_to_ask q x ≡ true → (k : Kind) → IfSome (level_of q k) (λ r. eqb r x ≡ false) → kind_takes Buy k x ≡ true → kind_takes Buy k (x + 1) ≡ true
 next_takes q x w Market a e = refl
 next_takes q x w (Limit l) a e =
     ⊎_elim
-    (λ same. let here = subst (λ b. AllByRecursion (λ r. eqb r x ≡ false) (cond b (l ∷ []) [])) (subst (λ r. from_bid_to_ask q r ≡ true) (sym same) w) a in absurd (eqb-false l x here.0 same))
+    (λ same. let here = subst (λ b. IfSome (cond b (Some l) None) (λ r. eqb r x ≡ false)) (subst (λ r. from_bid_to_ask q r ≡ true) (sym same) w) a in absurd (eqb-false l x here same))
     (λ other. le-leb (x + 1) l (omega (arith, leb-true x l e)))
     (cases_eq l x)
 next_takes q x w (StopMarket s) a e = e
@@ -73,7 +74,7 @@ module _ (q : Quote) (ts : List Terms) where
   next_trades : (x : ℕ) → Between q x → AllByRecursion (λ r. eqb r x ≡ false) (levels_of q ts) → shares_at q ts x ≤ shares_at q ts (x + 1)
   next_trades x w a =
       let inside : from_bid_to_ask q x ≡ true = and_from _ _ (le-leb q.bid x w.0) (le-leb x q.ask w.1) in
-      let each = all_joined (λ r. eqb r x ≡ false) (λ t. level_of q t.kind) ts a.1.1 in
+      let each = all_added (λ r. eqb r x ≡ false) (λ t. level_of q t.kind) ts a.1.1 in
       let buys = volume_grows Buy x (x + 1) (All-weaker _ _ (λ t h. next_takes q x inside t.kind h) ts each) in
       omega (arith, not_bid x (λ e. eqb-false q.bid x a.0 (sym e)), not_ask x (λ e. eqb-false q.ask x a.1.0 (sym e)), volume_still Sell x (x + 1) (omega arith))
 
@@ -101,18 +102,18 @@ module _ (q : Quote) (ts : List Terms) where
   best_leads : Leads (demand_at q ts) (supply_at q ts) (levels_of q ts) best
   best_leads = leads (demand_at q ts) (supply_at q ts) q.bid (q.ask ∷ limit_levels q ts)
 
-  level_between : (k : Kind) → AllByRecursion (Between q) (level_of q k)
+  level_between : (k : Kind) → IfSome (level_of q k) (Between q)
   level_between Market = tt
   level_between (Limit l) =
       ⊎_elim
-      (λ e. let w = and_parts (leb q.bid l) (leb l q.ask) e in rw e ((leb-true q.bid l w.0, leb-true l q.ask w.1), tt))
+      (λ e. let w = and_parts (leb q.bid l) (leb l q.ask) e in rw e (leb-true q.bid l w.0, leb-true l q.ask w.1))
       (λ e. rw e tt)
       (cases_Bool (from_bid_to_ask q l))
   level_between (StopMarket s) = tt
   level_between (StopLimit l s) = tt
 
   levels_between : q.bid < q.ask → AllByRecursion (Between q) (levels_of q ts)
-  levels_between h = ((omega arith, omega arith), ((omega arith, omega arith), joined_all (Between q) (λ t. level_of q t.kind) (λ t. level_between t.kind) ts))
+  levels_between h = ((omega arith, omega arith), ((omega arith, omega arith), added_all (Between q) (λ t. level_of q t.kind) (λ t. level_between t.kind) ts))
 
   best_low : q.bid < q.ask → Between q best.lowest
   best_low h = low_all (demand_at q ts) (supply_at q ts) (levels_of q ts) best best_leads (Between q) (levels_between h)
@@ -126,7 +127,7 @@ module _ (q : Quote) (ts : List Terms) where
   choice tick low high false false h = (omega arith, omega (arith, div-mul-le_self ((low + high) / 2) tick))
 
   chosen_between : (tick : ℕ) → (best.lowest ≤ chosen_price tick best) × (chosen_price tick best ≤ best.highest)
-  chosen_between tick = choice tick best.lowest best.highest best.above best.below (low_high (demand_at q ts) (supply_at q ts) (levels_of q ts) best best_leads)
+  chosen_between tick = choice tick best.lowest best.highest (is_gt best.lean) (is_lt best.lean) (low_high (demand_at q ts) (supply_at q ts) (levels_of q ts) best best_leads)
 
   -- the answer, told by the best level
   auction_is : (tick n : ℕ) → auction_of tick q ts n ≡ cond (eqb best.shares 0) (Unpriced n) (priced_at q ts n (chosen_price tick best))

@@ -1,9 +1,8 @@
 -- Facts on lists of prices: filters, tests of all, lowest and highest.
-use Rattle.std.proofs.Common.{◌≡◌, ℕ, ◌<◌, ◌≤◌, min, max, Bool, true, false, cond, ◌&&◌, eqb, ◌⊎◌, List, [], ◌∷◌, ◌++◌, length, fold, sum_by, filter, refl, ap, ◌∙◌, subst, inl, inr, ⊎_elim, arith}
-use Rattle.std.proofs.ByRecursion.{All-append}
+use Rattle.std.proofs.Common.{◌≡◌, ℕ, ◌<◌, ◌≤◌, min, max, Bool, true, false, cond, ◌&&◌, eqb, ◌⊎◌, List, [], ◌∷◌, ◌++◌, length, Option, Some, None, IfSome, fold, sum_by, filter, refl, ap, ◌∙◌, subst, inl, inr, ⊎_elim, arith}
 use Rattle.std.proofs.lemmas.List.Sums.{sum_by-cons, fold_push}
 use Rattle.std.proofs.lemmas.Bool.{and_parts, and_from, cases_Bool, cases_lt, eqb-true}
-use Rattle.std.specs.List.{flat_map, AllByRecursion}
+use Rattle.std.specs.List.{filter_map, cons_option, AllByRecursion}
 use Rattle.pricing.specs.Price.{all_of, lowest_of, highest_of}
 
 module _ {X : Type 0} where
@@ -35,22 +34,22 @@ module _ {X : Type 0} where
   sum_le f g [] a = omega arith
   sum_le f g (x ∷ xs) a = omega (arith, a.0, sum_le f g xs a.1, sum_by-cons f x xs, sum_by-cons g x xs)
 
-  pub folded_append : {Z : Type 0} (f : Z → X → Z) (z : Z) (xs ys : List X) → fold f z (xs ++ ys) ≡ fold f (fold f z xs) ys
-  folded_append f z [] ys = refl
-  folded_append f z (x ∷ xs) ys = folded_append f (f z x) xs ys
-
-  all_parts : (P : X → Type 0) (xs ys : List X) → AllByRecursion P (xs ++ ys) → AllByRecursion P xs × AllByRecursion P ys
-  all_parts P [] ys a = (tt, a)
-  all_parts P (x ∷ xs) ys a = let r = all_parts P xs ys a.1 in ((a.0, r.0), r.1)
-
   -- what holds of all that the elements add holds of what each adds
-  pub all_joined : {Y : Type 0} (P : X → Type 0) (f : Y → List X) (ys : List Y) → AllByRecursion P (flat_map f ys) → AllByRecursion (λ y. AllByRecursion P (f y)) ys
-  all_joined P f [] a = tt
-  all_joined P f (y ∷ ys) a = let r = all_parts P (f y) (flat_map f ys) a in (r.0, all_joined P f ys r.1)
+  all_first : (P : X → Type 0) (o : Option X) (xs : List X) → AllByRecursion P (cons_option o xs) → IfSome o P × AllByRecursion P xs
+  all_first P None xs a = (tt, a)
+  all_first P (Some x) xs a = a
 
-  pub joined_all : {Y : Type 0} (P : X → Type 0) (f : Y → List X) → ((y : Y) → AllByRecursion P (f y)) → (ys : List Y) → AllByRecursion P (flat_map f ys)
-  joined_all P f h [] = tt
-  joined_all P f h (y ∷ ys) = All-append P (f y) (flat_map f ys) (h y) (joined_all P f h ys)
+  pub all_added : {Y : Type 0} (P : X → Type 0) (f : Y → Option X) (ys : List Y) → AllByRecursion P (filter_map f ys) → AllByRecursion (λ y. IfSome (f y) P) ys
+  all_added P f [] a = tt
+  all_added P f (y ∷ ys) a = let r = all_first P (f y) (filter_map f ys) a in (r.0, all_added P f ys r.1)
+
+  all_with : (P : X → Type 0) (o : Option X) (xs : List X) → IfSome o P → AllByRecursion P xs → AllByRecursion P (cons_option o xs)
+  all_with P None xs h a = a
+  all_with P (Some x) xs h a = (h, a)
+
+  pub added_all : {Y : Type 0} (P : X → Type 0) (f : Y → Option X) → ((y : Y) → IfSome (f y) P) → (ys : List Y) → AllByRecursion P (filter_map f ys)
+  added_all P f h [] = tt
+  added_all P f h (y ∷ ys) = all_with P (f y) (filter_map f ys) (h y) (added_all P f h ys)
 
 pub all_of_all : (t : ℕ → Bool) (ps : List ℕ) → all_of t ps ≡ true → AllByRecursion (λ p. t p ≡ true) ps
 all_of_all t [] e = tt

@@ -3,12 +3,43 @@ use Rattle.std.proofs.Common.{◌≡◌, ℕ, ◌-◌, ◌<◌, ◌≤◌, min, 
 use Rattle.std.proofs.lemmas.List.Elements.{filter-append}
 use Rattle.std.proofs.ByRecursion.{All-weaker, All-push, kept_by_passes, all_kept_by}
 use Rattle.std.proofs.lemmas.List.{append-nil, append_assoc, length_push}
-use Rattle.std.proofs.lemmas.Bool.{ltb-true, ltb-false, leb-true, le-leb, eqb-true, eq-eqb, ne_eqb, and_parts, and_from, and_left, and_right, cases_Bool}
+use Rattle.std.proofs.lemmas.Bool.{leb-true, le-leb, eqb-true, eq-eqb, ne_eqb, and_parts, and_from, and_left, and_right, cases_Bool}
+use Rattle.std.proofs.lemmas.Bool.{cases_eq, cases_lt}
+use Rattle.std.proofs.lemmas.Bool.Decides.{nat_tests}
+use Rattle.std.specs.Cmp.{nat_cmp_is}
+use Rattle.std.specs.declared.cmp.Ordering.{Ordering}
+use Rattle.std.specs.declared.cmp.Ordering.TheVariants.{Less, Equal, Greater}
+use Rattle.std.specs.Ordering.{is_lt, is_gt, nat_cmp, ordering_then}
 use Rattle.std.specs.List.{AllByRecursion}
 use Rattle.pricing.proofs.Filters.{kept_none, kept_same, kept_twice, all_both, all_of_all, all_all_of, all_of_push, and_true, lowest_push, highest_push, lowest_all, highest_all, lowest_le_highest}
 use Rattle.pricing.specs.Price.{all_of, with_most, with_least, lowest_of, highest_of, price_among}
-use Rattle.pricing.specs.Steps.{lone_best, tied_best, better_of, chosen_price}
+use Rattle.pricing.specs.Steps.{lone_best, shared_lean, tied_best, picked, better_of, chosen_price}
 use Rattle.pricing.specs.declared.best.Best.{Best}
+
+-- what holds of each answer of a comparison holds of the comparison
+by_cmp : (P : Ordering → Type 0) (a b : ℕ) → (a < b → P Less) → (a ≡ b → P Equal) → (b < a → P Greater) → P (nat_cmp a b)
+by_cmp P a b l e g =
+    ⊎_elim (λ h. subst P (nat_cmp_is a b Less h) (l h))
+    (λ h. ⊎_elim (λ k. subst P (nat_cmp_is a b Equal k) (e k)) (λ k. let m : b < a = omega arith in subst P (nat_cmp_is a b Greater m) (g m)) (cases_eq a b))
+    (cases_lt a b)
+
+cmp_above : (a b : ℕ) → is_gt (nat_cmp a b) ≡ ltb b a
+cmp_above a b = grind (arith, nat_tests)
+
+cmp_below : (a b : ℕ) → is_lt (nat_cmp a b) ≡ ltb a b
+cmp_below a b = grind (arith, nat_tests)
+
+-- a lean is shared exactly if both have it
+shared_by : (x y : Ordering) → (is_gt (shared_lean x y) ≡ (is_gt x && is_gt y)) × (is_lt (shared_lean x y) ≡ (is_lt x && is_lt y))
+shared_by Less Less = (refl, refl)
+shared_by Less Equal = (refl, refl)
+shared_by Less Greater = (refl, refl)
+shared_by Equal Less = (refl, refl)
+shared_by Equal Equal = (refl, refl)
+shared_by Equal Greater = (refl, refl)
+shared_by Greater Less = (refl, refl)
+shared_by Greater Equal = (refl, refl)
+shared_by Greater Greater = (refl, refl)
 
 -- demand d and supply s at each price
 module _ (d s : ℕ → ℕ) where
@@ -30,8 +61,8 @@ module _ (d s : ℕ → ℕ) where
     pub some : 0 < length ks
     pub low : b.lowest ≡ lowest_of ks
     pub high : b.highest ≡ highest_of ks
-    pub over : b.above ≡ all_of (λ r. ltb (s r) (d r)) ks
-    pub under : b.below ≡ all_of (λ r. ltb (d r) (s r)) ks
+    pub over : is_gt b.lean ≡ all_of (λ r. ltb (s r) (d r)) ks
+    pub under : is_lt b.lean ≡ all_of (λ r. ltb (d r) (s r)) ks
 
   -- b is the best of the levels ps
   pub record Leads (ps : List ℕ) (b : Best) : Type 0 where
@@ -52,7 +83,7 @@ module _ (d s : ℕ → ℕ) where
   push_no b ps p e = filter-append (as_good b) ps (p ∷ []) ∙ ap (λ t. filter (as_good b) ps ++ cond t (p ∷ []) []) e ∙ append-nil (filter (as_good b) ps)
 
   tells_one : (p : ℕ) → Tells (one p) (p ∷ [])
-  tells_one p = record { some = omega arith; low = refl; high = refl; over = sym (and_true (ltb (s p) (d p))); under = sym (and_true (ltb (d p) (s p))) }
+  tells_one p = record { some = omega arith; low = refl; high = refl; over = cmp_above (d p) (s p) ∙ sym (and_true (ltb (s p) (d p))); under = cmp_below (d p) (s p) ∙ sym (and_true (ltb (d p) (s p))) }
 
   good_itself : (p : ℕ) → as_good (one p) p ≡ true
   good_itself p = and_from _ _ (eq-eqb (traded p) (traded p) refl) (eq-eqb (apart p) (apart p) refl)
@@ -95,23 +126,17 @@ module _ (d s : ℕ → ℕ) where
               some = omega (arith, length_push ks p);
               low = ap (λ z. min z p) t.low ∙ sym (lowest_push ks p t.some);
               high = ap (λ z. max z p) t.high ∙ sym (highest_push ks p t.some);
-              over = ap (λ z. z && ltb (s p) (d p)) t.over ∙ sym (all_of_push (λ r. ltb (s r) (d r)) ks p);
-              under = ap (λ z. z && ltb (d p) (s p)) t.under ∙ sym (all_of_push (λ r. ltb (d r) (s r)) ks p);
+              over = (shared_by b.lean (one p).lean).0 ∙ ap (λ z. z && is_gt (one p).lean) t.over ∙ ap (λ z. all_of (λ r. ltb (s r) (d r)) ks && z) (cmp_above (d p) (s p)) ∙ sym (all_of_push (λ r. ltb (s r) (d r)) ks p);
+              under = (shared_by b.lean (one p).lean).1 ∙ ap (λ z. z && is_lt (one p).lean) t.under ∙ ap (λ z. all_of (λ r. ltb (d r) (s r)) ks && z) (cmp_below (d p) (s p)) ∙ sym (all_of_push (λ r. ltb (d r) (s r)) ks p);
             });
       }
 
   joins : (ps : List ℕ) (b : Best) (p : ℕ) → Leads ps b → Leads (ps ++ p ∷ []) (better_of b (one p))
   joins ps b p st =
-      ⊎_elim (λ e. rw e (wins ps b p st (inl (ltb-true b.shares (traded p) e))))
-      (λ e. rw e (⊎_elim (λ f. rw f (loses ps b p st (inl (ltb-true (traded p) b.shares f))))
-      (λ f. let same : b.shares ≡ traded p = omega (arith, ltb-false b.shares (traded p) e, ltb-false (traded p) b.shares f) in
-      rw f (⊎_elim (λ g. rw g (wins ps b p st (inr (same, ltb-true (apart p) b.difference g))))
-      (λ g. rw g (⊎_elim (λ h. rw h (loses ps b p st (inr (same, ltb-true b.difference (apart p) h))))
-      (λ h. rw h (ties ps b p st same (omega (arith, ltb-false (apart p) b.difference g, ltb-false b.difference (apart p) h))))
-      (cases_Bool (ltb b.difference (apart p)))))
-      (cases_Bool (ltb (apart p) b.difference))))
-      (cases_Bool (ltb (traded p) b.shares))))
-      (cases_Bool (ltb b.shares (traded p)))
+      by_cmp (λ o. Leads (ps ++ p ∷ []) (picked (ordering_then o (nat_cmp (apart p) b.difference)) b (one p))) b.shares (traded p)
+      (λ l. wins ps b p st (inl l))
+      (λ e. by_cmp (λ o. Leads (ps ++ p ∷ []) (picked o b (one p))) (apart p) b.difference (λ l. wins ps b p st (inr (e, l))) (λ f. ties ps b p st e (sym f)) (λ g. loses ps b p st (inr (e, g))))
+      (λ g. loses ps b p st (inl g))
 
   folds : (ps rs : List ℕ) (b : Best) → Leads ps b → Leads (ps ++ rs) (fold (λ a p. better_of a (one p)) b rs)
   folds ps [] b st = subst (λ z. Leads z b) (sym (append-nil ps)) st

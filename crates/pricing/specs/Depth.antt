@@ -1,6 +1,6 @@
 -- Demand, supply and shares at a price, and the levels of a list of orders.
-use Rattle.std.specs.Prelude.{ℕ, ◌+◌, ◌-◌, min, max, Bool, true, false, cond, ◌&&◌, List, [], ◌∷◌, sum_by, ◌==◌, nat_le}
-use Rattle.std.specs.List.{flat_map}
+use Rattle.std.specs.Prelude.{ℕ, ◌+◌, ◌-◌, min, max, Bool, true, false, cond, ◌&&◌, List, ◌∷◌, Some, None, Option, sum_by, ◌==◌, nat_le}
+use Rattle.std.specs.List.{filter_map}
 use Rattle.orders.specs.Forms.{side_code}
 use Rattle.orders.specs.declared.terms.Kind.{Kind}
 use Rattle.orders.specs.declared.terms.Kind.TheVariants.{Market, Limit, StopMarket, StopLimit}
@@ -53,15 +53,15 @@ difference_at q ts p = max (demand_at q ts p) (supply_at q ts p) - shares_at q t
 abbrev pub from_bid_to_ask : Quote → ℕ → Bool
 from_bid_to_ask q p = nat_le q.bid p && nat_le p q.ask
 
--- the level that an order adds: its limit, if that is from bid to ask
-abbrev pub level_of : Quote → Kind → List ℕ
-level_of q Market = []
-level_of q (Limit l) = cond (from_bid_to_ask q l) (l ∷ []) []
-level_of q (StopMarket s) = []
-level_of q (StopLimit l s) = []
+-- the level that an order of a kind adds: its limit, if that is from bid to ask
+abbrev pub level_of : Quote → Kind → Option ℕ
+level_of q Market = None
+level_of q (Limit l) = cond (from_bid_to_ask q l) (Some l) None
+level_of q (StopMarket s) = None
+level_of q (StopLimit l s) = None
 
 abbrev pub limit_levels : Quote → List Terms → List ℕ
-limit_levels q ts = flat_map (λ t. level_of q t.kind) ts
+limit_levels q ts = filter_map (λ t. level_of q t.kind) ts
 
 -- the levels: the bid, the ask and the limits between
 abbrev pub levels_of : Quote → List Terms → List ℕ

@@ -1,13 +1,14 @@
 // The best of the levels.
 ghost use Rattle.std.specs.Prelude.{◌≡◌, ◌≤◌};
-ghost use Rattle.std.specs.Option.{option_to_list};
 ghost use Rattle.orders.specs.Told.{grid_of};
 ghost use Rattle.pricing.specs.Depth.{level_of};
-ghost use Rattle.pricing.specs.Steps.{Bounded, lone_best, tied_best, better_of, best_at, best_with, best_of, chosen_price};
+ghost use Rattle.pricing.specs.Steps.{lone_best, tied_best, better_of, best_at, best_of, chosen_price};
 
-use crate::quote::{MatchingQuote, Quote};
+use crate::gather::Crossing;
+use crate::quote::Quote;
 use orders::settings::Settings;
-use orders::terms::{Kind, Side, Terms};
+use orders::terms::{Kind, Side};
+use std::cmp::Ordering;
 
 // The best of some levels: most shares, then least difference.
 #[derive(Clone, Copy)]
@@ -17,9 +18,8 @@ pub(crate) struct Best {
     // the lowest and the highest of the levels that are as good
     pub(crate) lowest: u32,
     pub(crate) highest: u32,
-    // is demand above supply at all of these, or below?
-    pub(crate) above: bool,
-    pub(crate) below: bool,
+    // how demand compares to supply, if it does so at all of these alike, and else `Equal`
+    pub(crate) lean: Ordering,
 }
 
 impl Best {
@@ -33,8 +33,7 @@ impl Best {
             difference: demand.max(supply) - shares,
             lowest: price,
             highest: price,
-            above: supply < demand,
-            below: demand < supply,
+            lean: demand.cmp(&supply),
         }
     }
 
@@ -47,8 +46,11 @@ impl Best {
             difference: self.difference,
             lowest: self.lowest.min(other.lowest),
             highest: self.highest.max(other.highest),
-            above: self.above && other.above,
-            below: self.below && other.below,
+            lean: if self.lean == other.lean {
+                self.lean
+            } else {
+                Ordering::Equal
+            },
         }
     }
 
@@ -56,16 +58,14 @@ impl Best {
     fn better(self, other: Best) -> Best
         ensures { result ≡ better_of self other }
     {
-        if self.shares < other.shares {
-            other
-        } else if other.shares < self.shares {
-            self
-        } else if other.difference < self.difference {
-            other
-        } else if self.difference < other.difference {
-            self
-        } else {
-            self.tied(other)
+        let order = self
+            .shares
+            .cmp(&other.shares)
+            .then(other.difference.cmp(&self.difference));
+        match order {
+            Ordering::Less => other,
+            Ordering::Equal => self.tied(other),
+            Ordering::Greater => self,
         }
     }
 
@@ -74,14 +74,14 @@ impl Best {
         requires { (self.lowest ≤ 1000000000) × (self.highest ≤ 1000000000) }
         ensures { result ≡ chosen_price (grid_of settings).tick self }
     {
-        if self.above {
-            self.highest
-        } else if self.below {
-            self.lowest
-        } else {
-            let tick = settings.tick();
-            self.lowest
-                .max((self.lowest + self.highest) / 2 / tick * tick)
+        match self.lean {
+            Ordering::Greater => self.highest,
+            Ordering::Less => self.lowest,
+            Ordering::Equal => {
+                let tick = settings.tick();
+                self.lowest
+                    .max((self.lowest + self.highest) / 2 / tick * tick)
+            }
         }
     }
 }
@@ -89,7 +89,7 @@ impl Best {
 impl Quote {
     // The level that an order of a kind adds.
     fn level_of(self, kind: Kind) -> Option<u32>
-        ensures { option_to_list result ≡ level_of self kind }
+        ensures { result ≡ level_of self kind }
     {
         match kind {
             Kind::Limit { limit } if self.bid <= limit && limit <= self.ask => Some(limit),
@@ -98,38 +98,25 @@ impl Quote {
     }
 }
 
-impl MatchingQuote {
+impl Crossing {
     // A price as the best of its own.
-    fn best_at(self, orders: &[Terms], price: u32) -> Best
-        requires { Bounded orders.now }
-        ensures { result ≡ best_at self.quote orders.now price }
+    fn best_at(&self, price: u32) -> Best
+        ensures { result ≡ best_at self.now.quote.quote self.now.orders.items price }
     {
-        let demand = self.depth_at(orders, Side::Buy, price);
-        let supply = self.depth_at(orders, Side::Sell, price);
+        let demand = self.depth_at(Side::Buy, price);
+        let supply = self.depth_at(Side::Sell, price);
         Best::lone(price, demand, supply)
     }
 
-    // The best so far and the level that an order of a kind adds.
-    fn best_with(self, orders: &[Terms], best: Best, kind: Kind) -> Best
-        requires { Bounded orders.now }
-        ensures { result ≡ best_with self.quote orders.now best (level_of self.quote kind) }
-    {
-        match self.quote.level_of(kind) {
-            Some(level) => best.better(self.best_at(orders, level)),
-            None => best,
-        }
-    }
-
     // The best of all levels.
-    pub(crate) fn best_of(self, orders: &[Terms]) -> Best
-        requires { Bounded orders.now }
-        ensures { result ≡ best_of self.quote orders.now }
+    pub(crate) fn best(&self) -> Best
+        ensures { result ≡ best_of self.now.quote.quote self.now.orders.items }
     {
-        let bid = self.best_at(orders, self.quote.bid);
-        let mut best = bid.better(self.best_at(orders, self.quote.ask));
-        for terms in orders {
-            best = self.best_with(orders, best, terms.kind);
-        }
-        best
+        let quote = self.quote.quote;
+        let ends = self.best_at(quote.bid).better(self.best_at(quote.ask));
+        self.orders
+            .iter()
+            .filter_map(|terms| quote.level_of(terms.kind))
+            .fold(ends, |best, level| best.better(self.best_at(level)))
     }
 }

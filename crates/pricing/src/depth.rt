@@ -1,8 +1,8 @@
 // Demand and supply at a price.
 ghost use Rattle.std.specs.Prelude.{◌≡◌, ◌≤◌, sum_by};
 ghost use Rattle.pricing.specs.Depth.{limit_takes, kind_takes, takes_at, open_at, quoted_at, depth_at};
-ghost use Rattle.pricing.specs.Steps.{Bounded};
 
+use crate::gather::Crossing;
 use crate::quote::MatchingQuote;
 use orders::terms::{Kind, Side, Terms};
 
@@ -45,19 +45,6 @@ fn open_at(side: Side, price: u32, terms: Terms) -> u32
     }
 }
 
-// What the orders have open on a side at a price.
-fn volume(orders: &[Terms], side: Side, price: u32) -> u32
-    requires { Bounded orders.now }
-    ensures value { result ≡ sum_by (open_at side price) orders.now }
-    ensures bound { result ≤ 256000000 }
-{
-    let mut shares = 0;
-    for terms in orders {
-        shares += open_at(side, price, *terms);
-    }
-    shares
-}
-
 impl MatchingQuote {
     // The volume of the bid at the bid, and of the ask at the ask.
     pub fn quoted_at(self, side: Side, price: u32) -> u32
@@ -77,12 +64,23 @@ impl MatchingQuote {
             },
         }
     }
+}
+
+impl Crossing {
+    // What the orders have open on a side at a price.
+    fn volume(&self, side: Side, price: u32) -> u32
+        ensures { result ≡ sum_by (open_at side price) self.now.orders.items }
+    {
+        self.orders
+            .iter()
+            .map(|terms| open_at(side, price, *terms))
+            .sum()
+    }
 
     // All that a side would trade at a price.
-    pub(crate) fn depth_at(self, orders: &[Terms], side: Side, price: u32) -> u32
-        requires { Bounded orders.now }
-        ensures { result ≡ depth_at self.quote orders.now side price }
+    pub(crate) fn depth_at(&self, side: Side, price: u32) -> u32
+        ensures { result ≡ depth_at self.now.quote.quote self.now.orders.items side price }
     {
-        volume(orders, side, price) + self.quoted_at(side, price)
+        self.volume(side, price) + self.quote.quoted_at(side, price)
     }
 }

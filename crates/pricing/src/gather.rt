@@ -1,125 +1,77 @@
 // The orders of a book, gathered in one pass.
-ghost use Rattle.std.specs.Prelude.{◌≡◌, ◌+◌, ◌<◌, ◌≤◌, [], ◌∷◌, ◌++◌, length};
-ghost use Rattle.pricing.specs.Steps.{listed, Added, Parts, Ready};
-ghost use Rattle.pricing.specs.Stops.{triggered_orders};
+ghost use Rattle.std.specs.Prelude.{◌≡◌};
+ghost use Rattle.book.specs.Lists.{Sound};
+ghost use Rattle.std.proofs.Props.{props};
+ghost use Rattle.pricing.specs.Steps.{Bounded};
+ghost use Rattle.pricing.specs.Stops.{staying_orders, triggered_orders, after_stops, stop_count};
 
-use crate::listing::Listing;
-use crate::quote::Quote;
+use crate::quote::{MatchingQuote, Quote};
 use crate::stops::made_ready;
+use arrayvec::ArrayVec;
 use book::Book;
+use book::iter::orders_of;
 use orders::capacity::MOST;
-use orders::terms::{Kind, Side, Terms};
-
-// What stands in an array where nothing is listed.
-const NOTHING: Terms = Terms {
-    number: 0,
-    participant: 0,
-    side: Side::Buy,
-    kind: Kind::Market,
-    quantity: 0,
-};
-
-impl Listing {
-    fn new() -> Listing
-        ensures value { listed result ≡ [] }
-        ensures len { result.count ≡ 0 }
-    {
-        Listing {
-            orders: [NOTHING; MOST],
-            count: 0,
-        }
-    }
-
-    fn push(&mut self, terms: Terms)
-        requires { self.old.count < 256 }
-        ensures after { listed self.new ≡ listed self.old ++ terms ∷ [] }
-        ensures len { self.new.count ≡ self.old.count + 1 }
-    {
-        self.orders[self.count] = terms;
-        self.count += 1;
-    }
-
-    // The orders that are listed.
-    pub fn as_slice(&self) -> &[Terms]
-        ensures value { result.now ≡ listed self.now }
-        ensures len { length result.now ≡ self.now.count }
-    {
-        &self.orders[..self.count]
-    }
-
-    fn extend(&mut self, more: &[Terms])
-        requires { self.old.count + length more.now ≤ 256 }
-        ensures { listed self.new ≡ listed self.old ++ more.now }
-    {
-        for terms in more {
-            self.push(*terms);
-        }
-    }
-}
+use orders::terms::Terms;
 
 // Orders that stay in their places, and stops that a quote triggers, made ready.
 #[derive(Drop)]
 struct Parted {
-    staying: Listing,
-    triggered: Listing,
-}
-
-impl Parted {
-    // Takes in one more order.
-    fn add(&mut self, quote: Quote, terms: Terms)
-        requires { self.old.staying.count + self.old.triggered.count < 256 }
-        ensures { Added quote terms self.old self.new }
-    {
-        if quote.triggers(terms) {
-            self.triggered.push(made_ready(terms));
-        } else {
-            self.staying.push(terms);
-        }
-    }
+    staying: ArrayVec<Terms, MOST>,
+    triggered: ArrayVec<Terms, MOST>,
 }
 
 // The orders of a book, parted by the stops that a quote triggers.
 fn part<B: Book>(book: &B, quote: Quote) -> Parted
-    ensures { Parts quote (B.Book.orders book.now) result }
+    ensures staying { result.staying.items ≡ staying_orders quote (B.Book.orders book.now) }
+    ensures triggered { result.triggered.items ≡ triggered_orders quote (B.Book.orders book.now) }
+    ensures sound { Sound (B.Book.orders book.now) }
 {
     let mut parted = Parted {
-        staying: Listing::new(),
-        triggered: Listing::new(),
+        staying: ArrayVec::new(),
+        triggered: ArrayVec::new(),
     };
-    let mut place = 0;
-    while let Some(order) = book.order_at(place) {
-        parted.add(quote, order.terms());
-        place += 1;
+    for order in orders_of(book) {
+        let terms = order.terms();
+        if quote.triggers(terms) {
+            parted.triggered.push(made_ready(terms));
+        } else {
+            parted.staying.push(terms);
+        }
     }
     parted
 }
 
 // The orders that a quote triggers, in list order, as the market or limit orders that they become.
-pub fn triggered_orders<B: Book>(book: &B, quote: Quote) -> Listing
-    ensures { listed result ≡ triggered_orders quote (B.Book.orders book.now) }
+pub fn triggered_orders<B: Book>(book: &B, quote: Quote) -> ArrayVec<Terms, MOST>
+    ensures { result.items ≡ triggered_orders quote (B.Book.orders book.now) }
 {
-    let Parted { triggered, .. } = part(book, quote);
-    triggered
+    part(book, quote).triggered
 }
 
-// The orders of a book after the stops, and how many stops were triggered.
+// The orders of a book after the stops that a quote triggers, under this quote.
 #[derive(Drop)]
-pub(crate) struct Gathered {
-    pub(crate) ready: Listing,
+pub(crate) struct Crossing {
+    pub(crate) quote: MatchingQuote,
+    pub(crate) orders: ArrayVec<Terms, MOST>,
+    // how many stops were triggered
     pub(crate) stops: usize,
+    ghost bounded: { Bounded orders.items } by { Prim.hlevel props },
 }
 
 // Reads a book once, and triggers its stops.
-pub(crate) fn gather<B: Book>(book: &B, quote: Quote) -> Gathered
-    ensures { Ready quote (B.Book.orders book.now) result }
+pub(crate) fn cross<B: Book>(book: &B, quote: MatchingQuote) -> Crossing
+    ensures quote { result.quote ≡ quote }
+    ensures orders { result.orders.items ≡ after_stops quote.quote (B.Book.orders book.now) }
+    ensures stops { result.stops ≡ stop_count quote.quote (B.Book.orders book.now) }
 {
     let Parted {
-        staying: mut ready,
+        staying: mut orders,
         triggered,
-    } = part(book, quote);
-    ready.extend(triggered.as_slice());
-    Gathered {
-        ready,
-        stops: triggered.count,
+    } = part(book, quote.quote);
+    orders.try_extend_from_slice(triggered.as_slice()).unwrap();
+    Crossing {
+        quote,
+        orders,
+        stops: triggered.len(),
     }
 }

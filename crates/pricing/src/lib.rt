@@ -4,7 +4,6 @@
 mod best;
 pub mod depth;
 pub mod gather;
-pub mod listing;
 pub mod quote;
 mod stops;
 pub mod trial;
