@@ -29,5 +29,5 @@ pub fn fill_orders<B: Book>(
     }
     let buys = interests(book, &Buying, quote, Side::Buy, price);
     let sells = interests(book, &Selling, quote, Side::Sell, price);
-    Ok(pair(price, buys.as_slice(), sells.as_slice(), fills))
+    Ok(pair(price, &buys, &sells, fills))
 }
