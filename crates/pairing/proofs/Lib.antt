@@ -6,4 +6,3 @@ mod Turning
 pub mod Flipping
 pub mod Fronting
 mod Queueing
-mod Listing
