@@ -11,11 +11,7 @@ fn total(interests: &[Interest]) -> u32
     requires { Pairable interests.now }
     ensures { result ≡ sum_by wanted interests.now }
 {
-    let mut shares = 0;
-    for interest in interests {
-        shares += interest.quantity;
-    }
-    shares
+    interests.iter().map(|interest| interest.quantity).sum()
 }
 
 // Pairs the first unfilled buy with the first unfilled sell until the shares are used up.
