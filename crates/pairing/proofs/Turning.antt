@@ -1,5 +1,5 @@
 -- The loops that pair: what is written, and what is still to come, give the same array in the end.
-use Rattle.std.proofs.Common.{◌≡◌, ℕ, ◌+◌, ◌-◌, ◌<◌, ◌≤◌, min, false, cond, eqb, leb, ◌⊎◌, List, [], ◌∷◌, ◌++◌, length, get_or, take, drop, set, sum_by, sym, refl, ap, ◌∙◌, subst, ⊎_elim, arith}
+use Rattle.std.proofs.Common.{◌≡◌, ℕ, ◌+◌, ◌-◌, ◌<◌, ◌≤◌, min, false, cond, eqb, leb, List, [], ◌∷◌, ◌++◌, length, get_or, take, drop, set, sum_by, sym, refl, ap, ◌∙◌, subst, ⊎_elim, arith}
 use Rattle.std.proofs.lemmas.List.{append_assoc, length-set, take_more_set, take-append-drop, drop-set-lt, drop_more, at_drop_more}
 use Rattle.std.proofs.lemmas.List.Sums.{sum_by-cons}
 use Rattle.std.proofs.lemmas.Bool.{cases_lt, cases_eq, eq-eqb, ne_eqb, le-leb, lt-leb, cond-true, cond-false}
@@ -162,40 +162,37 @@ module _ {n₀ : ℕ} {out₀ fs₀ : List Fill} {p b w : ℕ} {rest : List Inte
   pub all_used : left - x ≡ 0 → Course n₀ out₀ fs₀ (n + 1) (set out n (a_fill p b s.number x)) []
   all_used e = subst (Course n₀ out₀ fs₀ (n + 1) (set out n (a_fill p b s.number x))) (used_up p b (w - x) rest (sells_after x s ss) (left - x) t.going e) t.course
 
--- the sell at place j, of which k shares are taken
-module _ (sells : List Interest) (j k : ℕ) (d : Interest) (here : j < length sells) where
+-- the first of the sells, of which k shares are taken
+module _ (sells : List Interest) (k : ℕ) (head : Interest) (behind : List Interest) (here : sells ≡ head ∷ behind) where
   abbrev pub sell : Interest
-  sell = interest (get_or sells j d).number ((get_or sells j d).quantity - k)
+  sell = interest head.number (head.quantity - k)
 
-  first_sell : lessened k (drop j sells) ≡ sell ∷ drop (j + 1) sells
-  first_sell = at_drop_more (lessened k) sells j d here
+  pub not_taken : (w : ℕ) (rest : List Interest) (left : ℕ) → Going w rest (lessened k sells) left → k < head.quantity
+  not_taken w rest left g = omega (arith, (subst (AllByRecursion (λ i. 1 ≤ i.quantity)) (ap (lessened k) here) g.sellers).0)
 
-  pub not_taken : (w : ℕ) (rest : List Interest) (left : ℕ) → Going w rest (lessened k (drop j sells)) left → k < (get_or sells j d).quantity
-  not_taken w rest left g = omega (arith, (subst (AllByRecursion (λ i. 1 ≤ i.quantity)) first_sell g.sellers).0)
-
-  pub turned : {n₀ : ℕ} {out₀ fs₀ : List Fill} (p b w : ℕ) (rest : List Interest) (n : ℕ) (out : List Fill) (left x : ℕ) → 0 < w → x ≡ min w sell.quantity → Course n₀ out₀ fs₀ n out (paired p (interest b w ∷ rest) (lessened k (drop j sells))) → Going w rest (lessened k (drop j sells)) left → Turned n₀ out₀ fs₀ p b w rest sell (drop (j + 1) sells) n out left x
+  pub turned : {n₀ : ℕ} {out₀ fs₀ : List Fill} (p b w : ℕ) (rest : List Interest) (n : ℕ) (out : List Fill) (left x : ℕ) → 0 < w → x ≡ min w (head.quantity - k) → Course n₀ out₀ fs₀ n out (paired p (interest b w ∷ rest) (lessened k sells)) → Going w rest (lessened k sells) left → Turned n₀ out₀ fs₀ p b w rest sell behind n out left x
   turned {n₀} {out₀} {fs₀} p b w rest n out left x pos e c g =
-      let first = subst (λ ss. Going w rest ss left) first_sell g in
-      let some = takes_some w rest sell (drop (j + 1) sells) left x pos e first in
-      let course = subst (Course n₀ out₀ fs₀ n out) (ap (paired p (interest b w ∷ rest)) first_sell ∙ turn p b w rest sell (drop (j + 1) sells) x pos e) c in
+      let first = subst (λ ss. Going w rest ss left) (ap (lessened k) here) g in
+      let some = takes_some w rest sell behind left x pos e first in
+      let course = subst (Course n₀ out₀ fs₀ n out) (ap (λ ss. paired p (interest b w ∷ rest) (lessened k ss)) here ∙ turn p b w rest sell behind x pos e) c in
       record {
         within = omega (arith, course.room);
         some = some.0;
         most = some.1;
         course = written_one n out _ _ course;
-        going = going_on w rest sell (drop (j + 1) sells) left x e first;
+        going = going_on w rest sell behind left x e first;
       }
 
   -- the sells that the code goes on with
-  pub next_sell : (x : ℕ) → k < (get_or sells j d).quantity → k + x ≡ (get_or sells j d).quantity → sells_after x sell (drop (j + 1) sells) ≡ lessened 0 (drop (j + 1) sells)
-  next_sell x h e = cond-true (eqb x sell.quantity) _ _ (eq-eqb x sell.quantity (omega arith)) ∙ sym (lessened_none (drop (j + 1) sells))
+  pub next_sell : (x : ℕ) → k < head.quantity → k + x ≡ head.quantity → sells_after x sell behind ≡ lessened 0 behind
+  next_sell x h e = cond-true (eqb x sell.quantity) _ _ (eq-eqb x sell.quantity (omega arith)) ∙ sym (lessened_none behind)
 
-  pub same_sell : (x : ℕ) → k < (get_or sells j d).quantity → (k + x ≡ (get_or sells j d).quantity → ⊥) → sells_after x sell (drop (j + 1) sells) ≡ lessened (k + x) (drop j sells)
+  pub same_sell : (x : ℕ) → k < head.quantity → (k + x ≡ head.quantity → ⊥) → sells_after x sell behind ≡ lessened (k + x) sells
   same_sell x h e =
-      let less : sell.quantity - x ≡ (get_or sells j d).quantity - (k + x) = omega arith in
+      let less : sell.quantity - x ≡ head.quantity - (k + x) = omega arith in
       cond-false (eqb x sell.quantity) _ _ (ne_eqb x sell.quantity (λ n. e (omega arith)))
-      ∙ ap (λ r. interest (get_or sells j d).number r ∷ drop (j + 1) sells) less
-      ∙ sym (at_drop_more (lessened (k + x)) sells j d here)
+      ∙ ap (λ r. interest head.number r ∷ behind) less
+      ∙ sym (ap (lessened (k + x)) here)
 
 -- the buyer at place i
 module _ (p : ℕ) (buys : List Interest) (i : ℕ) (d : Interest) (ss : List Interest) where
@@ -210,13 +207,12 @@ module _ (p : ℕ) (buys : List Interest) (i : ℕ) (d : Interest) (ss : List In
   pub through : {n₀ n₁ n : ℕ} {out₀ fs₀ out₁ out fs : List Fill} → i < length buys → Course n₀ out₀ fs₀ n₁ out₁ (paired p (drop i buys) ss) → Course n₁ out₁ (paired p (get_or buys i d ∷ drop (i + 1) buys) ss) n out fs → Course n₀ out₀ fs₀ n out fs
   through {n₀} {n₁} {n} {out₀} {fs₀} {out₁} h c k = joined_course (subst (Course n₀ out₀ fs₀ n₁ out₁) (at_drop_more (λ bs. paired p bs ss) buys i d h) c) k
 
--- a buyer is left who wants no more, or finds no sells
-pub next_buyer : {n₀ : ℕ} {out₀ fs₀ : List Fill} (p b w : ℕ) (rest ss : List Interest) (n : ℕ) (out : List Fill) (left : ℕ) → (w ≡ 0) ⊎ (ss ≡ []) → Course n₀ out₀ fs₀ n out (paired p (interest b w ∷ rest) ss) → Going w rest ss left → Course n₀ out₀ fs₀ n out (paired p rest ss) × Going 0 rest ss left
-next_buyer {n₀} {out₀} {fs₀} p b w rest ss n out left end c g =
-    ⊎_elim
-    (λ e. (subst (Course n₀ out₀ fs₀ n out) (ap (λ r. paired p (interest b r ∷ rest) ss) e ∙ sated p b rest ss) c, subst (λ r. Going r rest ss left) e g))
-    (λ e. let none : sum_by wanted ss ≡ 0 = ap (sum_by wanted) e in (
-      subst (Course n₀ out₀ fs₀ n out) (ap (paired p (interest b w ∷ rest)) e ∙ sym (ap (paired p rest) e)) c,
-      record { used = omega (arith, g.used); buyers = g.buyers; sellers = g.sellers },
-    ))
-    end
+-- a buyer is left who wants no more
+pub next_buyer : {n₀ : ℕ} {out₀ fs₀ : List Fill} (p b w : ℕ) (rest ss : List Interest) (n : ℕ) (out : List Fill) (left : ℕ) → w ≡ 0 → Course n₀ out₀ fs₀ n out (paired p (interest b w ∷ rest) ss) → Going w rest ss left → Course n₀ out₀ fs₀ n out (paired p rest ss) × Going 0 rest ss left
+next_buyer {n₀} {out₀} {fs₀} p b w rest ss n out left e c g =
+    (subst (Course n₀ out₀ fs₀ n out) (ap (λ r. paired p (interest b r ∷ rest) ss) e ∙ sated p b rest ss) c, subst (λ r. Going r rest ss left) e g)
+
+-- no sells are left
+pub none_to_sell : {n₀ : ℕ} {out₀ fs₀ : List Fill} (p : ℕ) (bs ss : List Interest) (k n : ℕ) (out : List Fill) → length ss ≡ 0 → Course n₀ out₀ fs₀ n out (paired p bs (lessened k ss)) → Course n₀ out₀ fs₀ n out []
+none_to_sell {n₀} {out₀} {fs₀} p bs [] k n out e c = subst (Course n₀ out₀ fs₀ n out) (no_sells p bs) c
+none_to_sell p bs (s ∷ ss) k n out e c = absurd (omega arith)

@@ -4,7 +4,6 @@ ghost use Rattle.pairing.specs.Answers.{Filled};
 ghost use Rattle.pairing.specs.Laws.{FillsAddUp, ByPriority};
 
 use crate::pairs::pair;
-use crate::priority::{Buying, Selling};
 use crate::queue::interests;
 use book::Book;
 use orders::refusal::Refusal;
@@ -27,7 +26,7 @@ pub fn fill_orders<B: Book>(
     if fills.len() < book.count() {
         return Err(Refusal::FillEntries);
     }
-    let buys = interests(book, &Buying, quote, Side::Buy, price);
-    let sells = interests(book, &Selling, quote, Side::Sell, price);
-    Ok(pair(price, buys.as_slice(), sells.as_slice(), fills))
+    let buys = interests(book, quote, Side::Buy, price);
+    let sells = interests(book, quote, Side::Sell, price);
+    Ok(pair(price, &buys, &sells, fills))
 }

@@ -11,11 +11,7 @@ fn total(interests: &[Interest]) -> u32
     requires { Pairable interests.now }
     ensures { result ≡ sum_by wanted interests.now }
 {
-    let mut shares = 0;
-    for interest in interests {
-        shares += interest.quantity;
-    }
-    shares
+    interests.iter().map(|interest| interest.quantity).sum()
 }
 
 // Pairs the first unfilled buy with the first unfilled sell until the shares are used up.
@@ -34,13 +30,15 @@ fn pair_shares(
 {
     let mut left = shares;
     let mut count = 0;
-    let mut next = 0;
+    let mut rest = sells;
     let mut taken = 0;
     'auction: for buy in buys {
         let buyer = buy.number;
         let mut open = buy.quantity;
-        while open > 0 && next < sells.len() {
-            let sell = sells[next];
+        while open > 0 {
+            let Some((sell, behind)) = rest.split_first() else {
+                break 'auction;
+            };
             let quantity = open.min(sell.quantity - taken);
             fills[count] = Fill {
                 buyer,
@@ -56,7 +54,7 @@ fn pair_shares(
             open -= quantity;
             taken += quantity;
             if taken == sell.quantity {
-                next += 1;
+                rest = behind;
                 taken = 0;
             }
         }

@@ -31,7 +31,7 @@ module _ (n q : ℕ) where
       (here : (ts : List Terms) → eqb t.number n ≡ true → remaining (lone_fill n q ∷ []) t ++ ts ≡ F (t ∷ ts))
       (there : (x : Terms) (ts : List Terms) → eqb x.number n ≡ false → x ∷ F ts ≡ F (x ∷ ts)) where
     off : (ts : List Terms) → distinct ts ≡ true → AllByRecursion (λ x. in_range x ≡ true) ts → found n ts ≡ Some t → after_fills (lone_fill n q ∷ []) ts ≡ F ts
-    off [] d r f = let z : ◌≡◌ {A = ℕ} 0 1 = cc in absurd (omega arith)
+    off [] d r f = cc
     off (x ∷ ts) d r f =
         let p = and_parts _ (distinct ts) d in
         ⊎_elim

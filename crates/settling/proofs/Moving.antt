@@ -1,5 +1,5 @@
 -- Stops moved to the end one after the other.
-use Rattle.std.proofs.Common.{◌≡◌, ℕ, ◌≤◌, true, false, eqb, List, [], ◌∷◌, ◌++◌, length, Some, None, fold, filter, Option, sym, refl, ap, ◌∙◌, subst, ⊎_elim, arith}
+use Rattle.std.proofs.Common.{◌≡◌, ℕ, ◌≤◌, true, false, eqb, List, [], ◌∷◌, ◌++◌, length, Some, None, fold, filter, Option, sym, refl, ap, ◌∙◌, subst, ⊎_elim}
 use Rattle.std.proofs.ByRecursion.{All-weaker, All-map, all_kept_by}
 use Rattle.std.proofs.lemmas.List.{append-nil, append_assoc}
 use Rattle.std.proofs.lemmas.Bool.{cases_Bool, cases_eq, and_parts, not-true, eq-eqb}
@@ -66,11 +66,11 @@ module _ (q : Quote) where
     pub ready : t ≡ made_ready order
 
   stop_by : (n : ℕ) (ts : List Terms) (t : Terms) (o : Option Terms) → found n ts ≡ o → Some t ≡ option_flatten (option_map (triggered_form q) o) → Stop n ts t
-  stop_by n ts t None f e = let z : ◌≡◌ {A = ℕ} 0 1 = cc in absurd (omega arith)
+  stop_by n ts t None f e = absurd cc
   stop_by n ts t (Some u) f e =
       ⊎_elim
       (λ b. let k = rw b at e in record { order = u; is = f; ready = cc })
-      (λ b. let k = rw b at e in let z : ◌≡◌ {A = ℕ} 0 1 = cc in absurd (omega arith))
+      (λ b. let k = rw b at e in absurd cc)
       (cases_Bool (triggered_by q u))
 
   pub stop_from : (n : ℕ) (ts : List Terms) (t : Terms) → Some t ≡ stop_at q n ts → Stop n ts t

@@ -1,21 +1,15 @@
 -- What the steps of the code leave.
-use Rattle.std.specs.Prelude.{◌≡◌, ℕ, ◌≤◌, List, [], ◌∷◌, ◌++◌, map, take, Some, None, filter, Option}
+use Rattle.std.specs.Prelude.{ℕ, List, [], ◌∷◌, ◌++◌, map, Some, None, filter, Option}
 use Rattle.std.specs.Option.{option_map, option_flatten}
 use Rattle.orders.specs.declared.terms.Terms.{Terms}
 use Rattle.book.specs.Lists.{found, without}
-use Rattle.pricing.specs.Stops.{triggered_by, triggered_form, stop_count}
+use Rattle.pricing.specs.Stops.{triggered_by, triggered_form}
 use Rattle.pricing.specs.declared.quote.Quote.{Quote}
 use Rattle.settling.specs.declared.fill.Fill.{Fill}
 
 -- the numbers of the stops that a quote triggers, in list order
 abbrev pub stop_numbers : Quote → List Terms → List ℕ
 stop_numbers q ts = map (λ t. t.number) (filter (triggered_by q) ts)
-
--- the first entries of an array are those numbers
-pub record Noted (q : Quote) (ts : List Terms) (numbers : List ℕ) (count : ℕ) : Type 0 where
-  pub value : take count numbers ≡ stop_numbers q ts
-  pub len : count ≡ stop_count q ts
-  pub few : count ≤ 256
 
 -- what the order of a number becomes if the quote triggers it
 abbrev pub stop_at : Quote → ℕ → List Terms → Option Terms

@@ -5,48 +5,41 @@ ghost use Rattle.orders.specs.Told.{terms_of};
 ghost use Rattle.book.specs.Lists.{Sound};
 ghost use Rattle.pricing.specs.Stops.{triggered_form, after_stops, stop_count};
 ghost use Rattle.settling.specs.Conservation.{OpenAsBefore};
-ghost use Rattle.settling.specs.Steps.{Noted, stop_at, stop_moved};
+ghost use Rattle.settling.specs.Steps.{stop_numbers, stop_at, stop_moved};
 
+use arrayvec::ArrayVec;
 use book::find::find;
+use book::iter::orders_of;
 use book::{Book, Store};
 use orders::capacity::MOST;
 use orders::order::Order;
 use pricing::quote::Quote;
 
-// The number of an order that the quote triggers.
+// The number of an order if the quote triggers it.
 fn stop_number(quote: Quote, order: Order) -> Option<u32>
     ensures { result ≡ option_map (λ t. t.number) (triggered_form quote (terms_of order)) }
 {
-    match quote.triggered(order) {
-        Some(ready) => Some(ready.terms().number),
-        None => None,
-    }
+    quote.triggered(order).map(|ready| ready.terms().number)
 }
 
-// Notes the numbers of the stops that a quote triggers, in list order, and tells how many there are.
-fn note_stops<B: Book>(book: &B, quote: Quote, numbers: &mut [u32; MOST]) -> usize
-    ensures { Noted quote (B.Book.orders book.now) numbers.new result }
+// The numbers of the stops that a quote triggers, in list order.
+fn note_stops<B: Book>(book: &B, quote: Quote) -> ArrayVec<u32, MOST>
+    ensures { result.items ≡ stop_numbers quote (B.Book.orders book.now) }
 {
-    let mut count = 0;
-    let mut place = 0;
-    while let Some(order) = book.order_at(place) {
+    let mut numbers = ArrayVec::new();
+    for order in orders_of(book) {
         if let Some(number) = stop_number(quote, order) {
-            numbers[count] = number;
-            count += 1;
+            numbers.push(number);
         }
-        place += 1;
     }
-    count
+    numbers
 }
 
 // What the order of a number becomes if the quote triggers it.
 fn stop_at<B: Book>(book: &B, quote: Quote, number: u32) -> Option<Order>
     ensures { option_map terms_of result ≡ stop_at quote number (B.Book.orders book.now) }
 {
-    match find(book, number) {
-        Some(order) => quote.triggered(order),
-        None => None,
-    }
+    find(book, number).and_then(|order| quote.triggered(order))
 }
 
 // Puts a stop that the quote triggers at the end of the list.
@@ -78,8 +71,7 @@ pub fn trigger_stops<S: Store>(store: &mut S, quote: Quote) -> usize
     ensures sound { Sound (S.Book.orders store.new) }
     ensures conserves { OpenAsBefore (S.Book.orders store.old) (S.Book.orders store.new) }
 {
-    let mut numbers = [0; MOST];
-    let count = note_stops(store, quote, &mut numbers);
-    move_stops(store, quote, &numbers[..count]);
-    count
+    let numbers = note_stops(store, quote);
+    move_stops(store, quote, &numbers);
+    numbers.len()
 }

@@ -20,9 +20,9 @@ pair-requires g c =
     let q = c.args.quote in
     let ts = g.B.Book.orders c.args.book.now in
     record {
-      buyers = subst Pairable (sym c.as_slice.ensures.value) c.interests-buys.ensures.pairable;
-      sellers = subst Pairable (sym c.as_slice-2.ensures.value) c.interests-sells.ensures.pairable;
-      room = fills_fit q.quote ts c.args.price _ _ (c.as_slice.ensures.value ∙ c.interests-buys.ensures.value) (c.as_slice-2.ensures.value ∙ c.interests-sells.ensures.value) q.apart _ (omega (arith, c.if-fills-count.false, c.count.ensures.value));
+      buyers = subst Pairable (sym c.deref.ensures.0) c.interests-buys.ensures.pairable;
+      sellers = subst Pairable (sym c.deref-2.ensures.0) c.interests-sells.ensures.pairable;
+      room = fills_fit q.quote ts c.args.price _ _ (c.deref.ensures.0 ∙ c.interests-buys.ensures.value) (c.deref-2.ensures.0 ∙ c.interests-sells.ensures.value) q.apart _ (omega (arith, c.if-fills-count.false, c.count.ensures.value));
     }
 
 pub returns : goal.returns
@@ -30,7 +30,7 @@ returns g c =
     let q = c.args.quote in
     let ts = g.B.Book.orders c.args.book.now in
     record {
-      filled = filled q.quote ts c.args.price _ _ (c.as_slice.ensures.value ∙ c.interests-buys.ensures.value) (c.as_slice-2.ensures.value ∙ c.interests-sells.ensures.value) c.args.fills.now _ _ c.count.ensures.sound (omega (arith, c.if-fills-count.false, c.count.ensures.value)) c.pair.ensures;
+      filled = filled q.quote ts c.args.price _ _ (c.deref.ensures.0 ∙ c.interests-buys.ensures.value) (c.deref-2.ensures.0 ∙ c.interests-sells.ensures.value) c.args.fills.now _ _ c.count.ensures.sound (omega (arith, c.if-fills-count.false, c.count.ensures.value)) c.pair.ensures;
       adds_up = add_up q.quote ts c.args.price q.apart c.count.ensures.sound;
       buys_by_priority = by_priority c.args.quote.quote ts c.args.price c.count.ensures.sound Buy;
       sells_by_priority = by_priority c.args.quote.quote ts c.args.price c.count.ensures.sound Sell;

@@ -8,8 +8,8 @@ abbrev pub invariant-loop-open : goal.invariant-loop-open
 invariant-loop-open l =
     let rest = drop (l.buy-index + 1) l.buys in
     let e = l.initial in
-    Course e.count e.fills (paired l.price (interest l.buyer e.open ∷ rest) (lessened e.taken (drop e.next l.sells))) l.count l.fills (paired l.price (interest l.buyer l.open ∷ rest) (lessened l.taken (drop l.next l.sells)))
-    × Going l.open rest (lessened l.taken (drop l.next l.sells)) l.left
+    Course e.count e.fills (paired l.price (interest l.buyer e.open ∷ rest) (lessened e.taken e.rest)) l.count l.fills (paired l.price (interest l.buyer l.open ∷ rest) (lessened l.taken l.rest))
+    × Going l.open rest (lessened l.taken l.rest) l.left
 
 abbrev pub decreases-loop-open : goal.decreases-loop-open
 decreases-loop-open l = l.open
@@ -17,5 +17,5 @@ decreases-loop-open l = l.open
 abbrev pub invariant-auction : goal.invariant-auction
 invariant-auction l =
     let rest = drop l.buy-index l.buys in
-    Course 0 l.initial.fills (paired l.price l.buys l.sells) l.count l.fills (paired l.price rest (lessened l.taken (drop l.next l.sells)))
-    × Going 0 rest (lessened l.taken (drop l.next l.sells)) l.left
+    Course 0 l.initial.fills (paired l.price l.buys l.sells) l.count l.fills (paired l.price rest (lessened l.taken l.rest))
+    × Going 0 rest (lessened l.taken l.rest) l.left

@@ -1,4 +1,4 @@
-use Rattle.std.proofs.Common.{sym, refl, ap, ◌∙◌, subst}
+use Rattle.std.proofs.Common.{refl, sym, ap, ◌∙◌, subst}
 use Rattle.std.proofs.lemmas.List.{take_all}
 use Rattle.settling.proofs.Filling.{settled_none, settled_more}
 use Rattle.settling.proofs.Keeping.{fills_conserve}
@@ -15,10 +15,10 @@ loop-fill-preserved g c = (
   c.settle_fill.ensures.same ∙ c.loop-fill.invariant.1,
 )
 
-pub returns : goal.returns
-returns g c =
+pub returns-clause-conserves : goal.returns-clause-conserves
+returns-clause-conserves g c =
     let s = c.args.store.now in
     let ts = g.S.Book.orders s in
     let fs = c.args.fills.now in
     let after = c.loop-fill.invariant.0 ∙ ap (λ l. after_fills l ts) (take_all c.loop-fill.fill-index fs c.loop-fill-test.false) in
-    record { after = after; same = c.loop-fill.invariant.1; conserves = subst (TradedOrOpen fs ts) (sym after) (fills_conserve fs ts (g.met.S.Store.sound s).apart) }
+    subst (TradedOrOpen fs ts) (sym after) (fills_conserve fs ts (g.met.S.Store.sound s).apart)
