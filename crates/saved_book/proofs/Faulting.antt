@@ -12,7 +12,7 @@ use Rattle.orders.specs.declared.terms.Kind.{Kind}
 use Rattle.orders.specs.declared.terms.Terms.{Terms}
 use Rattle.orders.specs.declared.ticket.Ticket.{Ticket}
 use Rattle.book.specs.Lists.{held}
-use Rattle.saved_book.specs.Calls.{NamedFault, accept_answer}
+use Rattle.saved_book.specs.Calls.{NamedFault}
 use Rattle.saved_book.specs.Decoding.{four_at, ticket_at, checked_record, record_at, joined_by, orders_upto, laid_out, decode}
 use Rattle.saved_book.specs.Faults.{fault_number}
 use Rattle.saved_book.specs.declared.fault.RecordFault.{RecordFault}
@@ -68,9 +68,9 @@ by_layout : (g : Grid) (bs : List ℕ) (b : Bool) → IfErr (cond b (orders_upto
 by_layout g bs true = upto_refused g bs (four_at bs 0) (four_at bs 0)
 by_layout g bs false = tt
 
-told : (bs : List ℕ) (r : Result (List Terms) SavedFault) → IfErr r (Below (four_at bs 0)) → IfErr (seen (λ _. tt {0}) r) (NamedFault bs)
+told : (bs : List ℕ) (r : Result (List Terms) SavedFault) → IfErr r (Below (four_at bs 0)) → IfErr r (NamedFault bs)
 told bs (Ok ts) h = tt
 told bs (Err f) h = as_named bs f h
 
-pub named_fault : (g : Grid) (bs : List ℕ) → IfErr (accept_answer g bs) (NamedFault bs)
+pub named_fault : (g : Grid) (bs : List ℕ) → IfErr (decode g bs) (NamedFault bs)
 named_fault g bs = told bs (decode g bs) (by_layout g bs (laid_out bs))

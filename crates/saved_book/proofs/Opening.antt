@@ -9,7 +9,7 @@ use Rattle.orders.specs.Ticks.{Grid}
 use Rattle.orders.specs.declared.terms.Terms.{Terms}
 use Rattle.book.proofs.General.{given}
 use Rattle.book.specs.Lists.{Sound}
-use Rattle.saved_book.specs.Calls.{orders_of, orders_in, accept_answer}
+use Rattle.saved_book.specs.Calls.{orders_of, orders_in}
 use Rattle.saved_book.specs.Decoding.{four_at, record_at, orders_upto, laid_out, decode}
 use Rattle.saved_book.specs.Steps.{head_count}
 use Rattle.saved_book.specs.declared.fault.SavedFault.{SavedFault}
@@ -84,24 +84,17 @@ checked g bs n u h e =
     by_records g bs n u (orders_upto g bs n n) refl e
     ∙ sym (ap (seen length) (cond-true (laid_out bs) _ _ p.0 ∙ ap (λ m. orders_upto g bs m m) (sym p.1)))
 
-by_count : (r : Result (List Terms) SavedFault) (n : ℕ) → Ok n ≡ seen length r → (◌≡◌ {A = Result (Unit {0}) SavedFault} (Ok tt) (seen (λ _. tt) r)) × (n ≡ length (orders_of r))
+by_count : (r : Result (List Terms) SavedFault) (n : ℕ) → Ok n ≡ seen length r → (Ok (orders_of r) ≡ r) × (n ≡ length (orders_of r))
 by_count (Err f) n e = let z : ◌≡◌ {A = ℕ} 0 1 = cc in absurd (omega arith)
 by_count (Ok ts) n e = (refl, cc)
 
 -- what it says that the bytes are counted
-pub counted : (g : Grid) (bs : List ℕ) (n : ℕ) → Ok n ≡ seen length (decode g bs) → (Ok tt ≡ accept_answer g bs) × (n ≡ length (orders_in g bs))
+pub counted : (g : Grid) (bs : List ℕ) (n : ℕ) → Ok n ≡ seen length (decode g bs) → (Ok (orders_in g bs) ≡ decode g bs) × (n ≡ length (orders_in g bs))
 counted g bs n e = by_count (decode g bs) n e
 
-by_fault : (r : Result (List Terms) SavedFault) (f : SavedFault) → ◌≡◌ {A = Result ℕ SavedFault} (Err f) (seen length r) → ◌≡◌ {A = Result (Unit {0}) SavedFault} (Err f) (seen (λ _. tt) r)
+by_fault : (r : Result (List Terms) SavedFault) (f : SavedFault) → ◌≡◌ {A = Result ℕ SavedFault} (Err f) (seen length r) → Err f ≡ r
 by_fault (Ok ts) f e = let z : ◌≡◌ {A = ℕ} 0 1 = cc in absurd (omega arith)
-by_fault (Err x) f e = let d : x ≡ f = cc in ap (λ y. Err y) (sym d)
+by_fault (Err x) f e = cc
 
-pub faulted : (g : Grid) (bs : List ℕ) (f : SavedFault) → ◌≡◌ {A = Result ℕ SavedFault} (Err f) (seen length (decode g bs)) → Err f ≡ accept_answer g bs
+pub faulted : (g : Grid) (bs : List ℕ) (f : SavedFault) → ◌≡◌ {A = Result ℕ SavedFault} (Err f) (seen length (decode g bs)) → Err f ≡ decode g bs
 faulted g bs f e = by_fault (decode g bs) f e
-
-by_answer : (r : Result (List Terms) SavedFault) (u : Unit {0}) → Ok u ≡ seen (λ _. tt) r → r ≡ Ok (orders_of r)
-by_answer (Err f) u e = let z : ◌≡◌ {A = ℕ} 0 1 = cc in absurd (omega arith)
-by_answer (Ok ts) u e = refl
-
-pub accepted : (g : Grid) (bs : List ℕ) (u : Unit {0}) → Ok u ≡ accept_answer g bs → decode g bs ≡ Ok (orders_in g bs)
-accepted g bs u e = by_answer (decode g bs) u e

@@ -90,33 +90,14 @@ fn check(settings: Settings, bytes: &[u8]) -> Result<usize, SavedFault>
     Ok(count)
 }
 
-// What bytes are accepted as: the book over them, which is empty if they have a fault, and their first fault if they have one.
-#[derive(Drop)]
-pub struct Accepted<'a> {
-    pub book: SavedBook<'a>,
-    pub answer: Result<(), SavedFault>,
-}
-
 // The book over these bytes, or their first fault.
-pub fn accept(settings: Settings, bytes: &[u8]) -> Accepted<'_>
-    ensures { Accept (grid_of settings) bytes.now result.answer (orders_read result.book) }
+pub fn accept(settings: Settings, bytes: &[u8]) -> Result<SavedBook<'_>, SavedFault>
+    ensures { Accept (grid_of settings) bytes.now (seen orders_read result) }
 {
-    match check(settings, bytes) {
-        Ok(count) => Accepted {
-            book: SavedBook {
-                settings,
-                bytes,
-                count,
-            },
-            answer: Ok(()),
-        },
-        Err(fault) => Accepted {
-            book: SavedBook {
-                settings,
-                bytes,
-                count: 0,
-            },
-            answer: Err(fault),
-        },
-    }
+    let count = check(settings, bytes)?;
+    Ok(SavedBook {
+        settings,
+        bytes,
+        count,
+    })
 }
