@@ -73,28 +73,23 @@ pub ok_seen : {A B E : Type 0} (f : A → B) (r : Result A E) → option_map f (
 ok_seen f (Ok x) = refl
 ok_seen f (Err e) = refl
 
--- the check of all the bytes
-by_records : (g : Grid) (bs : List ℕ) (n : ℕ) (u : Unit {0}) (r : Result (List Terms) SavedFault) → orders_upto g bs n n ≡ r → Ok u ≡ seen (λ _. tt) r → Ok n ≡ seen length r
-by_records g bs n u (Err f) e h = let z : ◌≡◌ {A = ℕ} 0 1 = cc in absurd (omega arith)
-by_records g bs n u (Ok ts) e h = ap (λ m. Ok m) (sym (upto_length g bs n n ts e))
+-- the check of all the records of bytes that are laid out
+module _ (g : Grid) (bs : List ℕ) (n : ℕ) (h : Some n ≡ head_count bs) where
+  all_records : orders_upto g bs n n ≡ decode g bs
+  all_records =
+      let p = given (laid_out bs) n (four_at bs 0) h in
+      ap (λ m. orders_upto g bs m m) p.1 ∙ sym (cond-true (laid_out bs) _ _ p.0)
 
-pub checked : (g : Grid) (bs : List ℕ) (n : ℕ) (u : Unit {0}) → Some n ≡ head_count bs → Ok u ≡ seen (λ _. tt) (orders_upto g bs n n) → Ok n ≡ seen length (decode g bs)
-checked g bs n u h e =
-    let p = given (laid_out bs) n (four_at bs 0) h in
-    by_records g bs n u (orders_upto g bs n n) refl e
-    ∙ sym (ap (seen length) (cond-true (laid_out bs) _ _ p.0 ∙ ap (λ m. orders_upto g bs m m) (sym p.1)))
+  by_records : (r : Result (List Terms) SavedFault) (u : Unit {0}) → decode g bs ≡ r → Ok u ≡ seen (λ _. tt) r → (Ok (orders_of r) ≡ r) × (n ≡ length (orders_of r))
+  by_records (Err f) u d e = let z : ◌≡◌ {A = ℕ} 0 1 = cc in absurd (omega arith)
+  by_records (Ok ts) u d e = (refl, sym (upto_length g bs n n ts (all_records ∙ d)))
 
-by_count : (r : Result (List Terms) SavedFault) (n : ℕ) → Ok n ≡ seen length r → (Ok (orders_of r) ≡ r) × (n ≡ length (orders_of r))
-by_count (Err f) n e = let z : ◌≡◌ {A = ℕ} 0 1 = cc in absurd (omega arith)
-by_count (Ok ts) n e = (refl, cc)
+  pub checked : (u : Unit {0}) → Ok u ≡ seen (λ _. tt) (orders_upto g bs n n) → (Ok (orders_in g bs) ≡ decode g bs) × (n ≡ length (orders_in g bs))
+  checked u e = by_records (decode g bs) u refl (e ∙ ap (seen (λ _. tt)) all_records)
 
--- what it says that the bytes are counted
-pub counted : (g : Grid) (bs : List ℕ) (n : ℕ) → Ok n ≡ seen length (decode g bs) → (Ok (orders_in g bs) ≡ decode g bs) × (n ≡ length (orders_in g bs))
-counted g bs n e = by_count (decode g bs) n e
+  by_fault : (r : Result (List Terms) SavedFault) (f : SavedFault) → ◌≡◌ {A = Result (Unit {0}) SavedFault} (Err f) (seen (λ _. tt) r) → Err f ≡ r
+  by_fault (Ok ts) f e = let z : ◌≡◌ {A = ℕ} 0 1 = cc in absurd (omega arith)
+  by_fault (Err x) f e = cc
 
-by_fault : (r : Result (List Terms) SavedFault) (f : SavedFault) → ◌≡◌ {A = Result ℕ SavedFault} (Err f) (seen length r) → Err f ≡ r
-by_fault (Ok ts) f e = let z : ◌≡◌ {A = ℕ} 0 1 = cc in absurd (omega arith)
-by_fault (Err x) f e = cc
-
-pub faulted : (g : Grid) (bs : List ℕ) (f : SavedFault) → ◌≡◌ {A = Result ℕ SavedFault} (Err f) (seen length (decode g bs)) → Err f ≡ decode g bs
-faulted g bs f e = by_fault (decode g bs) f e
+  pub faulted : (f : SavedFault) → ◌≡◌ {A = Result (Unit {0}) SavedFault} (Err f) (seen (λ _. tt) (orders_upto g bs n n)) → Err f ≡ decode g bs
+  faulted f e = by_fault (decode g bs) f (e ∙ ap (seen (λ _. tt)) all_records)

@@ -1,9 +1,9 @@
 -- The orders of the first records.
-use Rattle.std.proofs.Common.{◌≡◌, ℕ, zero, suc, ◌+◌, ◌-◌, ◌*◌, ◌<◌, Bool, true, false, cond, ◌||◌, eqb, List, [], ◌∷◌, ◌++◌, length, is_ok, Some, Ok, Err, Result, sym, refl, ap, ◌∙◌, subst, ⊎_elim, suc-add, zero-add, arith}
+use Rattle.std.proofs.Common.{◌≡◌, ℕ, zero, suc, ◌+◌, ◌-◌, ◌*◌, ◌<◌, Bool, true, false, cond, ◌||◌, eqb, List, [], ◌∷◌, ◌++◌, length, is_ok, Some, Ok, Err, Result, sym, refl, ap, ◌∙◌, subst, ⊎_elim, suc-add, zero-add, add-zero, arith}
 use Rattle.std.proofs.ByRecursion.{All-push}
 use Rattle.std.proofs.lemmas.List.{length_push}
-use Rattle.std.proofs.lemmas.Bool.{cases_lt, or_right, or_left, eq-eqb, both_ways, cond-true, cond-false}
-use Rattle.std.specs.List.{slice_get, AllByRecursion}
+use Rattle.std.proofs.lemmas.Bool.{cases_lt, both_ways, cond-true, cond-false}
+use Rattle.std.specs.List.{slice_get, AllByRecursion, list_any, range_with_len}
 use Rattle.std.specs.Result.{result_ok}
 use Rattle.orders.specs.Ranges.{in_range}
 use Rattle.orders.specs.Results.{seen}
@@ -48,6 +48,14 @@ or_swap : (a b c : Bool) → (a || (b || c)) ≡ (b || (a || c))
 or_swap true true c = refl
 or_swap true false c = refl
 or_swap false b c = refl
+
+-- one more number of a range
+any_more : (p : ℕ → Bool) (a n : ℕ) → list_any p (range_with_len a (suc n)) ≡ p (a + n) || list_any p (range_with_len a n)
+any_more p a zero = ap (λ j. p j || false) (sym (add-zero a))
+any_more p a (suc n) =
+    ap (λ b. p a || b) (any_more p (a + 1) n)
+    ∙ or_swap (p a) (p (a + 1 + n)) (list_any p (range_with_len (a + 1) n))
+    ∙ ap (λ j. p j || list_any p (range_with_len a (suc n))) (omega arith)
 
 nth_before : {X : Type 0} (xs : List X) (y : X) (k : ℕ) → k < length xs → slice_get (xs ++ y ∷ []) k ≡ slice_get xs k
 nth_before [] y k h = absurd (omega arith)
@@ -101,15 +109,7 @@ module _ (g : Grid) (bs : List ℕ) (n : ℕ) where
       let b = behind k (orders_upto g bs n k) (record_at g bs n k) ts e in
       ap (held m) b.whole ∙ held_push_is m b.orders b.order
       ∙ (λ i. eqb (read_number g bs n k b.order b.read_here i) m || upto_held k m b.orders b.read_before i)
-
--- a number that a record before has
-pub numbered_at : (bs : List ℕ) (m k j : ℕ) → j < k → four_at bs (8 + 4 * j) ≡ m → numbered_before bs m k ≡ true
-numbered_at bs m zero j h e = absurd (omega arith)
-numbered_at bs m (suc k) j h e =
-    ⊎_elim
-    (λ lt. or_right _ _ (numbered_at bs m k j lt e))
-    (λ le. let here : j ≡ k = omega arith in or_left _ _ (eq-eqb _ _ (ap (λ i. four_at bs (8 + 4 * i)) (sym here) ∙ e)))
-    (cases_lt j k)
+      ∙ sym (any_more (λ j. eqb (four_at bs (8 + 4 * j)) m) 0 k ∙ ap (λ j. eqb (four_at bs (8 + 4 * j)) m || numbered_before bs m k) (zero-add k))
 
 -- one more record is checked, behind some that are good
 err_by_number : (k : ℕ) (ts : List Terms) (t : Terms) (f : RecordFault) (b : Bool) → held t.number ts ≡ b → ◌≡◌ {A = Result (Unit {0}) RecordFault} (Err f) (cond b (Err (Refused NumberHeld)) (Ok tt)) → joined_by k (Ok ts) (Ok t) ≡ Err (Record k f)

@@ -1,5 +1,6 @@
 -- What only the steps of the code need.
-use Rattle.std.specs.Prelude.{ℕ, zero, suc, ◌+◌, ◌*◌, Bool, false, cond, ◌||◌, List, ◌++◌, length, take, drop, Some, None, Ok, Err, Option, Result, ◌==◌}
+use Rattle.std.specs.Prelude.{ℕ, ◌+◌, ◌*◌, Bool, cond, List, ◌++◌, length, take, drop, Some, None, Ok, Err, Option, Result, ◌==◌}
+use Rattle.std.specs.List.{list_any, range_with_len}
 use Rattle.orders.specs.declared.refusal.Refusal.TheVariants.{NumberHeld}
 use Rattle.orders.specs.declared.terms.Terms.{Terms}
 use Rattle.saved_book.specs.Decoding.{four_at, laid_out}
@@ -12,8 +13,7 @@ laid at part xs = take at xs ++ (part ++ drop (at + length part) xs)
 
 -- some record before k has the number
 abbrev pub numbered_before : List ℕ → ℕ → ℕ → Bool
-numbered_before bs m zero = false
-numbered_before bs m (suc k) = four_at bs (8 + 4 * k) == m || numbered_before bs m k
+numbered_before bs m k = list_any (λ j. four_at bs (8 + 4 * j) == m) (range_with_len 0 k)
 
 -- a record is good if none before it has its number
 abbrev pub alone : List ℕ → ℕ → Result Terms RecordFault → Result (Unit {0}) RecordFault

@@ -2,9 +2,10 @@
 ghost use Rattle.std.specs.Prelude.{◌≡◌};
 ghost use Rattle.saved_book.specs.Faults.{fault_number, saved_refusal, load_refusal};
 ghost use Rattle.saved_book.specs.declared.fault.LoadFault.TheVariants.{Saved};
-ghost use Rattle.saved_book.specs.declared.fault.RecordFault.TheVariants.{Refused};
+ghost use Rattle.saved_book.specs.declared.fault.RecordFault.TheVariants.{Code, Refused};
 
 use orders::refusal::Refusal;
+use orders::terms::UnknownCode;
 
 // What is wrong with a record.
 #[derive(Clone, Copy, PartialEq, Eq, Debug)]
@@ -61,6 +62,14 @@ impl LoadFault {
             LoadFault::Saved(fault) => fault.refusal(),
             LoadFault::StoreUnfit => Refusal::StoreUnfit,
         }
+    }
+}
+
+impl From<UnknownCode> for RecordFault {
+    ghost from_gives = { λ _ fault. fault ≡ Code };
+
+    fn from(_value: UnknownCode) -> RecordFault {
+        Self::Code
     }
 }
 
