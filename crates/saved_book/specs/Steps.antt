@@ -1,5 +1,5 @@
 -- What only the steps of the code need.
-use Rattle.std.specs.Prelude.{ℕ, ◌+◌, ◌*◌, Bool, cond, List, ◌++◌, length, take, drop, Some, None, Ok, Err, Option, Result, ◌==◌}
+use Rattle.std.specs.Prelude.{ℕ, ◌+◌, ◌*◌, ◌^◌, ◌<◌, Bool, cond, List, ◌++◌, length, take, drop, Some, None, Ok, Err, Option, Result, ◌==◌}
 use Rattle.std.specs.List.{list_any, range_with_len}
 use Rattle.orders.specs.declared.refusal.Refusal.TheVariants.{NumberHeld}
 use Rattle.orders.specs.declared.terms.Terms.{Terms}
@@ -23,3 +23,7 @@ alone bs k (Err f) = Err f
 -- the count that the head says, if the layout fits
 abbrev pub head_count : List ℕ → Option ℕ
 head_count bs = cond (laid_out bs) (Some (four_at bs 0)) None
+
+-- the number and the participant of an order fit their bytes
+abbrev pub fits_its_bytes : Terms → Type 0
+fits_its_bytes t = (t.number < 2 ^ 32) × (t.participant < 2 ^ 16)
