@@ -1,7 +1,7 @@
 -- Loading what was saved: decoding what encoding gives is the same list.
 use Rattle.std.proofs.Common.{◌≡◌, ℕ, zero, suc, ◌+◌, ◌*◌, ◌^◌, ◌<◌, ◌≤◌, true, eqb, leb, List, [], ◌∷◌, ◌++◌, length, get_or, take, drop, Some, Ok, sym, refl, ap, ◌∙◌, add-zero, add-one, arith, length-append}
 use Rattle.std.proofs.ByRecursion.{All-get_or}
-use Rattle.std.proofs.lemmas.List.{drop_at, drop-append-le, drop-drop, drop_more, take_more, take_all}
+use Rattle.std.proofs.lemmas.List.{drop_at, drop-append-le, drop-drop, drop_more, take_more, take_all, take-append-drop}
 use Rattle.std.proofs.lemmas.Bool.{and_parts, and_from, cond-true, cond-false, le-leb, eq-eqb}
 use Rattle.std.proofs.lemmas.Bool.Decides.{nat_tests}
 use Rattle.std.specs.Option.{ok_or, unwrap_or}
@@ -22,7 +22,7 @@ use Rattle.orders.specs.declared.terms.Side.{Side}
 use Rattle.orders.specs.declared.terms.Side.TheVariants.{Buy, Sell}
 use Rattle.orders.specs.declared.terms.Terms.{Terms}
 use Rattle.orders.specs.declared.ticket.Ticket.{Ticket}
-use Rattle.book.specs.Lists.{Sound}
+use Rattle.book.specs.Lists.{distinct, Sound}
 use Rattle.saved_book.specs.Calls.{on_grid, prices_on_tick, LoadsBack}
 use Rattle.saved_book.specs.Decoding.{four_at, ticket_of, ticket_at, checked_record, record_at, joined_by, orders_upto, laid_out, decode}
 use Rattle.saved_book.specs.Encoding.{number_bytes, record_bytes, encode}
@@ -31,7 +31,7 @@ use Rattle.saved_book.specs.declared.fault.RecordFault.TheVariants.{Refused}
 use Rattle.saved_book.proofs.Chunks.{length_joined, drop_joined}
 use Rattle.saved_book.proofs.Digits.{two_back, four_back, four_from}
 use Rattle.saved_book.proofs.Tickets.{ticket_from}
-use Rattle.saved_book.proofs.Places.{apart_before}
+use Rattle.saved_book.proofs.Places.{apart_in}
 
 -- the codes of sides and types name them
 side_back : (s : Side) → side_named (side_code s) ≡ Some s
@@ -140,7 +140,7 @@ module _ (g : Grid) (ts : List Terms) (sound : Sound ts) (ok : AllByRecursion Fi
       let reads : record_at g (encode ts) (length ts) k ≡ Ok (get_or ts k nothing) =
       record_reads ts g k (get_or ts k nothing) lt (drop_more ts k nothing lt) (All-get_or Fits ts k nothing lt ok) (All-get_or (λ t. in_range t ≡ true) ts k nothing lt sound.ranged) (All-get_or (λ t. on_grid g t ≡ true) ts k nothing lt on) in
       (λ i. joined_by k (upto_encoded k (omega arith) i) (reads i))
-      ∙ cond-false _ _ _ (apart_before k ts (drop (k + 1) ts) (get_or ts k nothing) (drop_more ts k nothing lt) sound.apart)
+      ∙ cond-false _ _ _ (apart_in (take k ts) (drop (k + 1) ts) (get_or ts k nothing) (ap distinct (ap (λ l. take k ts ++ l) (sym (drop_more ts k nothing lt)) ∙ take-append-drop k ts) ∙ sound.apart))
       ∙ ap Ok (sym (ap (λ m. take m ts) (sym (add-one k)) ∙ take_more ts k nothing lt))
 
   decode_encode : decode g (encode ts) ≡ Ok ts

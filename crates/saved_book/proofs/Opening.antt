@@ -34,7 +34,7 @@ by_layout g bs ts true l e =
       read = e;
       count = upto_length g bs (four_at bs 0) (four_at bs 0) ts e;
     }
-by_layout g bs ts false l e = let z : ◌≡◌ {A = ℕ} 0 1 = cc in absurd (omega arith)
+by_layout g bs ts false l e = cc
 
 pub opened : (g : Grid) (bs : List ℕ) (ts : List Terms) → decode g bs ≡ Ok ts → Opened g bs ts
 opened g bs ts e = by_layout g bs ts (laid_out bs) refl e
@@ -81,14 +81,14 @@ module _ (g : Grid) (bs : List ℕ) (n : ℕ) (h : Some n ≡ head_count bs) whe
       ap (λ m. orders_upto g bs m m) p.1 ∙ sym (cond-true (laid_out bs) _ _ p.0)
 
   by_records : (r : Result (List Terms) SavedFault) (u : Unit {0}) → decode g bs ≡ r → Ok u ≡ seen (λ _. tt) r → (Ok (orders_of r) ≡ r) × (n ≡ length (orders_of r))
-  by_records (Err f) u d e = let z : ◌≡◌ {A = ℕ} 0 1 = cc in absurd (omega arith)
+  by_records (Err f) u d e = cc
   by_records (Ok ts) u d e = (refl, sym (upto_length g bs n n ts (all_records ∙ d)))
 
   pub checked : (u : Unit {0}) → Ok u ≡ seen (λ _. tt) (orders_upto g bs n n) → (Ok (orders_in g bs) ≡ decode g bs) × (n ≡ length (orders_in g bs))
   checked u e = by_records (decode g bs) u refl (e ∙ ap (seen (λ _. tt)) all_records)
 
   by_fault : (r : Result (List Terms) SavedFault) (f : SavedFault) → ◌≡◌ {A = Result (Unit {0}) SavedFault} (Err f) (seen (λ _. tt) r) → Err f ≡ r
-  by_fault (Ok ts) f e = let z : ◌≡◌ {A = ℕ} 0 1 = cc in absurd (omega arith)
+  by_fault (Ok ts) f e = cc
   by_fault (Err x) f e = cc
 
   pub faulted : (f : SavedFault) → ◌≡◌ {A = Result (Unit {0}) SavedFault} (Err f) (seen (λ _. tt) (orders_upto g bs n n)) → Err f ≡ decode g bs

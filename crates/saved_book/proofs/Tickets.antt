@@ -37,14 +37,14 @@ pub record Passed (g : Grid) (t : Ticket) (u : Terms) : Type 0 where
   pub whole : u ≡ terms_under t kind
 
 by_kind : (g : Grid) (t : Ticket) (u : Terms) (o : Option Kind) → identified t.number t.participant ≡ true → on_lot g t.quantity ≡ true → kind_named g t.order_type t.limit t.stop ≡ o → seen (terms_under t) (ok_or o refusal.Price) ≡ Ok u → Passed g t u
-by_kind g t u None i l n e = let z : ◌≡◌ {A = ℕ} 0 1 = cc in absurd (omega arith)
+by_kind g t u None i l n e = cc
 by_kind g t u (Some k) i l n e = record { kind = k; identity = i; lot = l; named = n; whole = cc }
 
 by_tests : (g : Grid) (t : Ticket) (u : Terms) (a b : Bool) → identified t.number t.participant ≡ a → on_lot g t.quantity ≡ b →
     cond a (cond b (seen (terms_under t) (ok_or (kind_named g t.order_type t.limit t.stop) refusal.Price)) (Err refusal.Quantity)) (Err refusal.Identity) ≡ Ok u → Passed g t u
 by_tests g t u true true i l e = by_kind g t u _ i l refl e
-by_tests g t u true false i l e = let z : ◌≡◌ {A = ℕ} 0 1 = cc in absurd (omega arith)
-by_tests g t u false b i l e = let z : ◌≡◌ {A = ℕ} 0 1 = cc in absurd (omega arith)
+by_tests g t u true false i l e = cc
+by_tests g t u false b i l e = cc
 
 pub passed : (g : Grid) (t : Ticket) (u : Terms) → checked_ticket g t ≡ Ok u → Passed g t u
 passed g t u e = by_tests g t u _ _ refl refl e
@@ -95,15 +95,15 @@ pub record Read (g : Grid) (o : Option Ticket) (u : Terms) : Type 0 where
 
 by_check : (g : Grid) (t : Ticket) (u : Terms) (r : Result Terms Refusal) → checked_ticket g t ≡ r → result_map_both (λ u. u) Refused r ≡ Ok u → Read g (Some t) u
 by_check g t u (Ok v) c e = record { ticket = t; is = refl; passed = passed g t u (c ∙ cc) }
-by_check g t u (Err f) c e = let z : ◌≡◌ {A = ℕ} 0 1 = cc in absurd (omega arith)
+by_check g t u (Err f) c e = cc
 
 pub read : (g : Grid) (o : Option Ticket) (u : Terms) → checked_record g o ≡ Ok u → Read g o u
-read g None u e = let z : ◌≡◌ {A = ℕ} 0 1 = cc in absurd (omega arith)
+read g None u e = cc
 read g (Some t) u e = by_check g t u _ refl e
 
 numbered : (n p : ℕ) (s : Option Side) (o : Option OrderType) (q l t : ℕ) (k : Ticket) → ticket_of n p s o q l t ≡ Some k → n ≡ k.number
-numbered n p None o q l t k e = let z : ◌≡◌ {A = ℕ} 0 1 = cc in absurd (omega arith)
-numbered n p (Some s) None q l t k e = let z : ◌≡◌ {A = ℕ} 0 1 = cc in absurd (omega arith)
+numbered n p None o q l t k e = cc
+numbered n p (Some s) None q l t k e = cc
 numbered n p (Some s) (Some o) q l t k e = let z : record { number = n; participant = p; side = s; order_type = o; quantity = q; limit = l; stop = t } ≡ k = cc in ap (λ x. x.number) z
 
 pub ticket_numbered : (bs : List ℕ) (n at : ℕ) (k : Ticket) → ticket_at bs n at ≡ Some k → n ≡ k.number
@@ -154,8 +154,8 @@ record Made (p : ℕ) (s : Option Side) (o : Option OrderType) (q l t : ℕ) (k 
   stop : t ≡ k.stop
 
 made_of : (n p : ℕ) (s : Option Side) (o : Option OrderType) (q l t : ℕ) (k : Ticket) → ticket_of n p s o q l t ≡ Some k → Made p s o q l t k
-made_of n p None o q l t k e = let z : ◌≡◌ {A = ℕ} 0 1 = cc in absurd (omega arith)
-made_of n p (Some s) None q l t k e = let z : ◌≡◌ {A = ℕ} 0 1 = cc in absurd (omega arith)
+made_of n p None o q l t k e = cc
+made_of n p (Some s) None q l t k e = cc
 made_of n p (Some s) (Some o) q l t k e =
     let z : record { number = n; participant = p; side = s; order_type = o; quantity = q; limit = l; stop = t } ≡ k = cc in
     record { participant = ap (λ x. x.participant) z; side = ap (λ x. Some x.side) z; type = ap (λ x. Some x.order_type) z; quantity = ap (λ x. x.quantity) z; limit = ap (λ x. x.limit) z; stop = ap (λ x. x.stop) z }

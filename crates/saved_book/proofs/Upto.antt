@@ -30,12 +30,12 @@ pub record Behind (before : Result (List Terms) SavedFault) (here : Result Terms
   pub whole : ts ≡ orders ++ order ∷ []
 
 behind_cond : (k : ℕ) (us : List Terms) (t : Terms) (ts : List Terms) (b : Bool) (f : SavedFault) → held t.number us ≡ b → cond b (Err f) (Ok (us ++ t ∷ [])) ≡ Ok ts → Behind (Ok us) (Ok t) ts
-behind_cond k us t ts true f h e = let z : ◌≡◌ {A = ℕ} 0 1 = cc in absurd (omega arith)
+behind_cond k us t ts true f h e = cc
 behind_cond k us t ts false f h e = record { orders = us; order = t; read_before = refl; read_here = refl; apart = h; whole = cc }
 
 pub behind : (k : ℕ) (before : Result (List Terms) SavedFault) (here : Result Terms RecordFault) (ts : List Terms) → joined_by k before here ≡ Ok ts → Behind before here ts
-behind k (Err f) here ts e = let z : ◌≡◌ {A = ℕ} 0 1 = cc in absurd (omega arith)
-behind k (Ok us) (Err f) ts e = let z : ◌≡◌ {A = ℕ} 0 1 = cc in absurd (omega arith)
+behind k (Err f) here ts e = cc
+behind k (Ok us) (Err f) ts e = cc
 behind k (Ok us) (Ok t) ts e = behind_cond k us t ts (held t.number us) _ refl e
 
 -- a fault stays
@@ -68,13 +68,13 @@ nth_last (x ∷ xs) y = nth_last xs y
 
 module _ (g : Grid) (bs : List ℕ) (n : ℕ) where
   pub upto_length : (k : ℕ) (ts : List Terms) → orders_upto g bs n k ≡ Ok ts → length ts ≡ k
-  upto_length zero ts e = let d : [] ≡ ts = cc in subst (λ l. length l ≡ 0) d refl
+  upto_length zero ts e = cc
   upto_length (suc k) ts e =
       let b = behind k (orders_upto g bs n k) (record_at g bs n k) ts e in
       ap length b.whole ∙ length_push b.orders b.order ∙ omega (arith, upto_length k b.orders b.read_before)
 
   pub upto_distinct : (k : ℕ) (ts : List Terms) → orders_upto g bs n k ≡ Ok ts → distinct ts ≡ true
-  upto_distinct zero ts e = let d : [] ≡ ts = cc in subst (λ l. distinct l ≡ true) d refl
+  upto_distinct zero ts e = cc
   upto_distinct (suc k) ts e =
       let b = behind k (orders_upto g bs n k) (record_at g bs n k) ts e in
       ap distinct b.whole ∙ distinct_push b.orders b.order (upto_distinct k b.orders b.read_before) b.apart
@@ -104,7 +104,7 @@ module _ (g : Grid) (bs : List ℕ) (n : ℕ) where
   held_push_is m (u ∷ us) t = ap (λ b. eqb u.number m || b) (held_push_is m us t) ∙ or_swap (eqb u.number m) (eqb t.number m) (held m us)
 
   pub upto_held : (k m : ℕ) (ts : List Terms) → orders_upto g bs n k ≡ Ok ts → held m ts ≡ numbered_before bs m k
-  upto_held zero m ts e = let d : [] ≡ ts = cc in subst (λ l. held m l ≡ false) d refl
+  upto_held zero m ts e = cc
   upto_held (suc k) m ts e =
       let b = behind k (orders_upto g bs n k) (record_at g bs n k) ts e in
       ap (held m) b.whole ∙ held_push_is m b.orders b.order
@@ -114,16 +114,16 @@ module _ (g : Grid) (bs : List ℕ) (n : ℕ) where
 -- one more record is checked, behind some that are good
 err_by_number : (k : ℕ) (ts : List Terms) (t : Terms) (f : RecordFault) (b : Bool) → held t.number ts ≡ b → ◌≡◌ {A = Result (Unit {0}) RecordFault} (Err f) (cond b (Err (Refused NumberHeld)) (Ok tt)) → joined_by k (Ok ts) (Ok t) ≡ Err (Record k f)
 err_by_number k ts t f true h e = let d : Refused NumberHeld ≡ f = cc in cond-true _ _ _ h ∙ ap (λ x. Err (Record k x)) d
-err_by_number k ts t f false h e = let z : ◌≡◌ {A = ℕ} 0 1 = cc in absurd (omega arith)
+err_by_number k ts t f false h e = cc
 
 ok_by_number : (k : ℕ) (ts : List Terms) (t : Terms) (u : Unit {0}) (b : Bool) → held t.number ts ≡ b → Ok u ≡ cond b (Err (Refused NumberHeld)) (Ok tt) → is_ok (joined_by k (Ok ts) (Ok t)) ≡ true
-ok_by_number k ts t u true h e = let z : ◌≡◌ {A = ℕ} 0 1 = cc in absurd (omega arith)
+ok_by_number k ts t u true h e = cc
 ok_by_number k ts t u false h e = ap is_ok (cond-false _ _ _ h)
 
 module _ (g : Grid) (bs : List ℕ) (n k : ℕ) where
   by_err : (r : Result (List Terms) SavedFault) (h : Result Terms RecordFault) (f : RecordFault) → orders_upto g bs n k ≡ r → is_ok r ≡ true → Err f ≡ alone bs k h → joined_by k r h ≡ Err (Record k f)
   by_err (Err x) h f e o a = absurd (both_ways false refl o)
-  by_err (Ok ts) (Err x) f e o a = let d : x ≡ f = cc in ap (λ y. Err (Record k y)) d
+  by_err (Ok ts) (Err x) f e o a = cc
   by_err (Ok ts) (Ok t) f e o a = err_by_number k ts t f _ (upto_held g bs n k t.number ts e) a
 
   pub checked_err : (f : RecordFault) → is_ok (orders_upto g bs n k) ≡ true → Err f ≡ alone bs k (record_at g bs n k) → orders_upto g bs n (suc k) ≡ Err (Record k f)
@@ -131,7 +131,7 @@ module _ (g : Grid) (bs : List ℕ) (n k : ℕ) where
 
   by_ok : (r : Result (List Terms) SavedFault) (h : Result Terms RecordFault) (u : Unit {0}) → orders_upto g bs n k ≡ r → is_ok r ≡ true → Ok u ≡ alone bs k h → is_ok (joined_by k r h) ≡ true
   by_ok (Err x) h u e o a = absurd (both_ways false refl o)
-  by_ok (Ok ts) (Err x) u e o a = let z : ◌≡◌ {A = ℕ} 0 1 = cc in absurd (omega arith)
+  by_ok (Ok ts) (Err x) u e o a = cc
   by_ok (Ok ts) (Ok t) u e o a = ok_by_number k ts t u _ (upto_held g bs n k t.number ts e) a
 
   pub checked_ok : (u : Unit {0}) → is_ok (orders_upto g bs n k) ≡ true → Ok u ≡ alone bs k (record_at g bs n k) → is_ok (orders_upto g bs n (suc k)) ≡ true

@@ -22,10 +22,3 @@ loop-place-preserved c =
     ap (λ m. is_ok (orders_upto g bs n m)) (add-one k)
     ∙ checked_ok g bs n k c.in_default.field-0 c.loop-place.invariant c.in_default.ensures
 
-pub returns : goal.returns
-returns c =
-    let g = grid_of c.args.settings in
-    let bs = c.args.layout.now.bytes.now in
-    let n = c.args.layout.now.count in
-    let all : c.loop-place.place ≡ c.args.layout.now.count = omega (arith, c.loop-place-test.false, c.loop-place.auto.place-end) in
-    ok_told (orders_upto g bs n n) (ap (λ m. is_ok (orders_upto g bs n m)) (sym all) ∙ c.loop-place.invariant)

@@ -7,11 +7,6 @@ use Rattle.saved_book.specs.Meaning.{orders_read}
 use Rattle.saved_book.proofs.Opening.{nth_in, ok_seen}
 use Rattle.saved_book.proofs.reading.SavedBookBook.order_at.Goals as goal
 
-pub returns-then-place-count : goal.returns-then-place-count
-returns-then-place-count c =
-    let ts = orders_read c.args.self.now in
-    record { value = sym (slice_get_past ts c.args.place (omega (arith, c.count.ensures.value))); sound = c.count.ensures.sound }
-
 pub returns : goal.returns
 returns c =
     let b = c.args.self.now in
