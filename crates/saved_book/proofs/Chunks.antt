@@ -3,9 +3,6 @@ use Rattle.std.proofs.Common.{◌≡◌, ℕ, zero, suc, ◌+◌, ◌*◌, List,
 use Rattle.std.proofs.lemmas.List.{drop_all, drop_at, drop-drop, flat_map_more}
 use Rattle.std.specs.List.{flat_map}
 
-pub joined_push : {X : Type 0} (f : X → List ℕ) (xs : List X) (x : X) → flat_map f (xs ++ x ∷ []) ≡ flat_map f xs ++ f x
-joined_push f xs x = sym (flat_map_more f [] xs x)
-
 module _ {X : Type 0} (f : X → List ℕ) (s : ℕ) (size : (x : X) → length (f x) ≡ s) where
   pub length_joined : (xs : List X) → length (flat_map f xs) ≡ s * length xs
   length_joined [] = sym (mul-zero s)

@@ -1,21 +1,16 @@
 -- Numbers and their bytes.
 use Rattle.std.proofs.Common.{◌≡◌, ℕ, ◌+◌, ◌*◌, ◌/◌, ◌%◌, ◌^◌, ◌<◌, ◌≤◌, List, [], ◌∷◌, length, get_or, take, drop, sym, ap, ◌∙◌, add_assoc, arith, get_or-drop}
-use native.Mathlib.Nat.{div-div-eq-div-mul}
+use Rattle.std.proofs.lemmas.Nat.{from_le_bytes-to_le_bytes_2, from_le_bytes-to_le_bytes_4}
 use Rattle.std.proofs.lemmas.List.{drop_more}
 use Rattle.saved_book.specs.Decoding.{two_at, four_at}
 use Rattle.saved_book.specs.Encoding.{two, four}
 
 -- the bytes of a number that fits say the number
 pub two_back : (n : ℕ) → n < 2 ^ 16 → n % 256 + n / 256 % 256 * 256 ≡ n
-two_back n h = omega arith
+two_back n h = from_le_bytes-to_le_bytes_2 n h
 
 pub four_back : (n : ℕ) → n < 2 ^ 32 → n % 256 + n / 256 % 256 * 256 + n / 65536 % 256 * 65536 + n / 16777216 % 256 * 16777216 ≡ n
-four_back n h =
-    let a : n ≡ n % 256 + n / 256 * 256 = omega arith in
-    let b : n / 256 ≡ n / 256 % 256 + n / 65536 * 256 = omega (arith, div-div-eq-div-mul n 256 256) in
-    let c : n / 65536 ≡ n / 65536 % 256 + n / 16777216 * 256 = omega (arith, div-div-eq-div-mul n 65536 256) in
-    let d : n / 16777216 % 256 ≡ n / 16777216 = omega arith in
-    omega arith
+four_back n h = from_le_bytes-to_le_bytes_4 n h
 
 -- bytes are those of the number that they say
 two_same : (a b : ℕ) → a < 256 → b < 256 → ((a + b * 256) % 256 ≡ a) × ((a + b * 256) / 256 % 256 ≡ b)

@@ -12,7 +12,7 @@ use Rattle.orders.specs.declared.terms.Kind.{Kind}
 use Rattle.orders.specs.declared.terms.Terms.{Terms}
 use Rattle.orders.specs.declared.ticket.Ticket.{Ticket}
 use Rattle.book.specs.Lists.{held}
-use Rattle.saved_book.specs.Calls.{NamedFault, accept_answer}
+use Rattle.saved_book.specs.Calls.{NamedFault}
 use Rattle.saved_book.specs.Decoding.{four_at, ticket_at, checked_record, record_at, joined_by, orders_upto, laid_out, decode}
 use Rattle.saved_book.specs.Faults.{fault_number}
 use Rattle.saved_book.specs.declared.fault.RecordFault.{RecordFault}
@@ -60,17 +60,14 @@ upto_refused : (g : Grid) (bs : List ℕ) (n k : ℕ) → IfErr (orders_upto g b
 upto_refused g bs n zero = tt
 upto_refused g bs n (suc k) = by_record k (orders_upto g bs n k) (record_at g bs n k) (upto_refused g bs n k) (record_refused g (ticket_at bs (four_at bs (8 + 4 * k)) (8 + 4 * n + 16 * k)))
 
-as_named : (bs : List ℕ) (f : SavedFault) → Below (four_at bs 0) f → NamedFault bs f
-as_named bs Layout h = tt
-as_named bs (Record k f) h = h
-
 by_layout : (g : Grid) (bs : List ℕ) (b : Bool) → IfErr (cond b (orders_upto g bs (four_at bs 0) (four_at bs 0)) (Err Layout)) (Below (four_at bs 0))
 by_layout g bs true = upto_refused g bs (four_at bs 0) (four_at bs 0)
 by_layout g bs false = tt
 
-told : (bs : List ℕ) (r : Result (List Terms) SavedFault) → IfErr r (Below (four_at bs 0)) → IfErr (seen (λ _. tt {0}) r) (NamedFault bs)
+told : (bs : List ℕ) (r : Result (List Terms) SavedFault) → IfErr r (Below (four_at bs 0)) → IfErr r (NamedFault bs)
 told bs (Ok ts) h = tt
-told bs (Err f) h = as_named bs f h
+told bs (Err Layout) h = tt
+told bs (Err (Record k f)) h = h
 
-pub named_fault : (g : Grid) (bs : List ℕ) → IfErr (accept_answer g bs) (NamedFault bs)
+pub named_fault : (g : Grid) (bs : List ℕ) → IfErr (decode g bs) (NamedFault bs)
 named_fault g bs = told bs (decode g bs) (by_layout g bs (laid_out bs))

@@ -9,4 +9,3 @@ mod Faulting
 mod Loading
 mod Saving
 mod Writing
-mod Filling

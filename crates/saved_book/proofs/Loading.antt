@@ -1,14 +1,15 @@
 -- Loading what was saved: decoding what encoding gives is the same list.
 use Rattle.std.proofs.Common.{◌≡◌, ℕ, zero, suc, ◌+◌, ◌*◌, ◌^◌, ◌<◌, ◌≤◌, true, eqb, leb, List, [], ◌∷◌, ◌++◌, length, get_or, take, drop, Some, Ok, sym, refl, ap, ◌∙◌, add-zero, add-one, arith, length-append}
 use Rattle.std.proofs.ByRecursion.{All-get_or}
-use Rattle.std.proofs.lemmas.List.{drop_at, drop-append-le, drop-drop, drop_more, take_more, take_all}
+use Rattle.std.proofs.lemmas.List.{drop_at, drop-append-le, drop-drop, drop_more, take_more, take_all, take-append-drop}
 use Rattle.std.proofs.lemmas.Bool.{and_parts, and_from, cond-true, cond-false, le-leb, eq-eqb}
 use Rattle.std.proofs.lemmas.Bool.Decides.{nat_tests}
-use Rattle.std.specs.Option.{ok_or}
+use Rattle.std.specs.Option.{ok_or, unwrap_or}
 use Rattle.std.specs.Result.{result_map_both}
 use Rattle.std.specs.List.{flat_map, AllByRecursion}
 use Rattle.orders.specs.Checks.{identified, on_lot, on_tick, kind_named, terms_under, checked_ticket}
-use Rattle.orders.specs.Forms.{type_of, side_code, type_code}
+use Rattle.orders.specs.Forms.{type_of, limit_of, stop_of, side_code, type_code}
+use Rattle.orders.specs.Codes.{side_named, type_named}
 use Rattle.orders.specs.Ranges.{in_range, has_prices}
 use Rattle.orders.specs.Results.{seen}
 use Rattle.orders.specs.Ticks.{Grid}
@@ -21,14 +22,16 @@ use Rattle.orders.specs.declared.terms.Side.{Side}
 use Rattle.orders.specs.declared.terms.Side.TheVariants.{Buy, Sell}
 use Rattle.orders.specs.declared.terms.Terms.{Terms}
 use Rattle.orders.specs.declared.ticket.Ticket.{Ticket}
-use Rattle.book.specs.Lists.{Sound}
+use Rattle.book.specs.Lists.{distinct, Sound}
 use Rattle.saved_book.specs.Calls.{on_grid, prices_on_tick, LoadsBack}
-use Rattle.saved_book.specs.Decoding.{two_at, four_at, side_named, type_named, ticket_of, ticket_at, checked_record, record_at, joined_by, orders_upto, laid_out, decode}
-use Rattle.saved_book.specs.Encoding.{limit_of, stop_of, number_bytes, record_bytes, encode}
+use Rattle.saved_book.specs.Decoding.{four_at, ticket_of, ticket_at, checked_record, record_at, joined_by, orders_upto, laid_out, decode}
+use Rattle.saved_book.specs.Encoding.{number_bytes, record_bytes, encode}
+use Rattle.saved_book.specs.Steps.{fits_its_bytes}
 use Rattle.saved_book.specs.declared.fault.RecordFault.TheVariants.{Refused}
 use Rattle.saved_book.proofs.Chunks.{length_joined, drop_joined}
-use Rattle.saved_book.proofs.Digits.{two_back, four_back, get_or_from, two_from, four_from}
-use Rattle.saved_book.proofs.Places.{apart_before}
+use Rattle.saved_book.proofs.Digits.{two_back, four_back, four_from}
+use Rattle.saved_book.proofs.Tickets.{ticket_from}
+use Rattle.saved_book.proofs.Places.{apart_in}
 
 -- the codes of sides and types name them
 side_back : (s : Side) → side_named (side_code s) ≡ Some s
@@ -46,16 +49,16 @@ record Fits (t : Terms) : Type 0 where
   number : t.number < 2 ^ 32
   participant : t.participant < 2 ^ 16
   quantity : t.quantity < 2 ^ 32
-  limit : limit_of t.kind < 2 ^ 32
-  stop : stop_of t.kind < 2 ^ 32
+  limit : unwrap_or (limit_of t.kind) 0 < 2 ^ 32
+  stop : unwrap_or (stop_of t.kind) 0 < 2 ^ 32
 
-limit_fits : (k : Kind) → has_prices k ≡ true → limit_of k < 2 ^ 32
+limit_fits : (k : Kind) → has_prices k ≡ true → unwrap_or (limit_of k) 0 < 2 ^ 32
 limit_fits kind.Market h = omega arith
 limit_fits (kind.Limit l) h = grind (arith, nat_tests)
 limit_fits (kind.StopMarket s) h = omega arith
 limit_fits (kind.StopLimit l s) h = grind (arith, nat_tests)
 
-stop_fits : (k : Kind) → has_prices k ≡ true → stop_of k < 2 ^ 32
+stop_fits : (k : Kind) → has_prices k ≡ true → unwrap_or (stop_of k) 0 < 2 ^ 32
 stop_fits kind.Market h = omega arith
 stop_fits (kind.Limit l) h = omega arith
 stop_fits (kind.StopMarket s) h = grind (arith, nat_tests)
@@ -68,9 +71,9 @@ fits t n p h =
 
 -- the ticket that would enter an order
 abbrev ticket_for : Terms → Ticket
-ticket_for t = record { number = t.number; participant = t.participant; side = t.side; order_type = type_of t.kind; quantity = t.quantity; limit = limit_of t.kind; stop = stop_of t.kind }
+ticket_for t = record { number = t.number; participant = t.participant; side = t.side; order_type = type_of t.kind; quantity = t.quantity; limit = unwrap_or (limit_of t.kind) 0; stop = unwrap_or (stop_of t.kind) 0 }
 
-kind_back : (g : Grid) (k : Kind) → prices_on_tick g k ≡ true → kind_named g (type_of k) (limit_of k) (stop_of k) ≡ Some k
+kind_back : (g : Grid) (k : Kind) → prices_on_tick g k ≡ true → kind_named g (type_of k) (unwrap_or (limit_of k) 0) (unwrap_or (stop_of k) 0) ≡ Some k
 kind_back g kind.Market h = refl
 kind_back g (kind.Limit l) h = cond-true _ _ _ (and_from (on_tick g l) _ h refl)
 kind_back g (kind.StopMarket s) h = cond-true _ _ _ h
@@ -86,12 +89,7 @@ ticket_back g t r o =
 
 -- a record that stands in front is read
 record_front : (t : Terms) (n : ℕ) (rest : List ℕ) → Fits t → n ≡ t.number → ticket_at (record_bytes t ++ rest) n 0 ≡ Some (ticket_for t)
-record_front t n rest f e = λ i. ticket_of (e i) (two_back t.participant f.participant i) (side_back t.side i) (type_back (type_of t.kind) i) (four_back t.quantity f.quantity i) (four_back (limit_of t.kind) f.limit i) (four_back (stop_of t.kind) f.stop i)
-
-ticket_from : (bs : List ℕ) (n at : ℕ) → ticket_at bs n at ≡ ticket_at (drop at bs) n 0
-ticket_from bs n at =
-    let p = ap (two_at bs) (sym (add-zero at)) ∙ two_from bs at 0 in
-    λ i. ticket_of n (p i) (side_named (get_or_from bs at 2 i)) (type_named (get_or_from bs at 3 i)) (four_from bs at 4 i) (four_from bs at 8 i) (four_from bs at 12 i)
+record_front t n rest f e = λ i. ticket_of (e i) (two_back t.participant f.participant i) (side_back t.side i) (type_back (type_of t.kind) i) (four_back t.quantity f.quantity i) (four_back (unwrap_or (limit_of t.kind) 0) f.limit i) (four_back (unwrap_or (stop_of t.kind) 0) f.stop i)
 
 -- the encoding, from a place on
 module _ (ts : List Terms) where
@@ -142,7 +140,7 @@ module _ (g : Grid) (ts : List Terms) (sound : Sound ts) (ok : AllByRecursion Fi
       let reads : record_at g (encode ts) (length ts) k ≡ Ok (get_or ts k nothing) =
       record_reads ts g k (get_or ts k nothing) lt (drop_more ts k nothing lt) (All-get_or Fits ts k nothing lt ok) (All-get_or (λ t. in_range t ≡ true) ts k nothing lt sound.ranged) (All-get_or (λ t. on_grid g t ≡ true) ts k nothing lt on) in
       (λ i. joined_by k (upto_encoded k (omega arith) i) (reads i))
-      ∙ cond-false _ _ _ (apart_before k ts (drop (k + 1) ts) (get_or ts k nothing) (drop_more ts k nothing lt) sound.apart)
+      ∙ cond-false _ _ _ (apart_in (take k ts) (drop (k + 1) ts) (get_or ts k nothing) (ap distinct (ap (λ l. take k ts ++ l) (sym (drop_more ts k nothing lt)) ∙ take-append-drop k ts) ∙ sound.apart))
       ∙ ap Ok (sym (ap (λ m. take m ts) (sym (add-one k)) ∙ take_more ts k nothing lt))
 
   decode_encode : decode g (encode ts) ≡ Ok ts
@@ -157,9 +155,9 @@ module _ (g : Grid) (ts : List Terms) (sound : Sound ts) (ok : AllByRecursion Fi
       ∙ ap Ok (take_all (length ts) ts (omega arith))
 
 -- the numbers of an order that is in range fit their bytes, if its number and its participant do
-all_fit : (ts : List Terms) → AllByRecursion (λ t. t.number < 2 ^ 32) ts → AllByRecursion (λ t. t.participant < 2 ^ 16) ts → AllByRecursion (λ t. in_range t ≡ true) ts → AllByRecursion Fits ts
-all_fit [] n p r = tt
-all_fit (t ∷ ts) n p r = (fits t n.0 p.0 r.0, all_fit ts n.1 p.1 r.1)
+all_fit : (ts : List Terms) → AllByRecursion fits_its_bytes ts → AllByRecursion (λ t. in_range t ≡ true) ts → AllByRecursion Fits ts
+all_fit [] n r = tt
+all_fit (t ∷ ts) n r = (fits t n.0.0 n.0.1 r.0, all_fit ts n.1 r.1)
 
-pub loads_back : (ts : List Terms) → Sound ts → AllByRecursion (λ t. t.number < 2 ^ 32) ts → AllByRecursion (λ t. t.participant < 2 ^ 16) ts → LoadsBack ts
-loads_back ts s n p g on = decode_encode g ts s (all_fit ts n p s.ranged) on
+pub loads_back : (ts : List Terms) → Sound ts → AllByRecursion fits_its_bytes ts → LoadsBack ts
+loads_back ts s n g on = decode_encode g ts s (all_fit ts n s.ranged) on

@@ -9,7 +9,7 @@ use Rattle.orders.specs.Ticks.{Grid}
 use Rattle.orders.specs.declared.terms.Terms.{Terms}
 use Rattle.book.proofs.General.{given}
 use Rattle.book.specs.Lists.{Sound}
-use Rattle.saved_book.specs.Calls.{orders_of, orders_in, accept_answer}
+use Rattle.saved_book.specs.Calls.{orders_of, orders_in}
 use Rattle.saved_book.specs.Decoding.{four_at, record_at, orders_upto, laid_out, decode}
 use Rattle.saved_book.specs.Steps.{head_count}
 use Rattle.saved_book.specs.declared.fault.SavedFault.{SavedFault}
@@ -34,7 +34,7 @@ by_layout g bs ts true l e =
       read = e;
       count = upto_length g bs (four_at bs 0) (four_at bs 0) ts e;
     }
-by_layout g bs ts false l e = let z : ◌≡◌ {A = ℕ} 0 1 = cc in absurd (omega arith)
+by_layout g bs ts false l e = cc
 
 pub opened : (g : Grid) (bs : List ℕ) (ts : List Terms) → decode g bs ≡ Ok ts → Opened g bs ts
 opened g bs ts e = by_layout g bs ts (laid_out bs) refl e
@@ -73,35 +73,23 @@ pub ok_seen : {A B E : Type 0} (f : A → B) (r : Result A E) → option_map f (
 ok_seen f (Ok x) = refl
 ok_seen f (Err e) = refl
 
--- the check of all the bytes
-by_records : (g : Grid) (bs : List ℕ) (n : ℕ) (u : Unit {0}) (r : Result (List Terms) SavedFault) → orders_upto g bs n n ≡ r → Ok u ≡ seen (λ _. tt) r → Ok n ≡ seen length r
-by_records g bs n u (Err f) e h = let z : ◌≡◌ {A = ℕ} 0 1 = cc in absurd (omega arith)
-by_records g bs n u (Ok ts) e h = ap (λ m. Ok m) (sym (upto_length g bs n n ts e))
+-- the check of all the records of bytes that are laid out
+module _ (g : Grid) (bs : List ℕ) (n : ℕ) (h : Some n ≡ head_count bs) where
+  all_records : orders_upto g bs n n ≡ decode g bs
+  all_records =
+      let p = given (laid_out bs) n (four_at bs 0) h in
+      ap (λ m. orders_upto g bs m m) p.1 ∙ sym (cond-true (laid_out bs) _ _ p.0)
 
-pub checked : (g : Grid) (bs : List ℕ) (n : ℕ) (u : Unit {0}) → Some n ≡ head_count bs → Ok u ≡ seen (λ _. tt) (orders_upto g bs n n) → Ok n ≡ seen length (decode g bs)
-checked g bs n u h e =
-    let p = given (laid_out bs) n (four_at bs 0) h in
-    by_records g bs n u (orders_upto g bs n n) refl e
-    ∙ sym (ap (seen length) (cond-true (laid_out bs) _ _ p.0 ∙ ap (λ m. orders_upto g bs m m) (sym p.1)))
+  by_records : (r : Result (List Terms) SavedFault) (u : Unit {0}) → decode g bs ≡ r → Ok u ≡ seen (λ _. tt) r → (Ok (orders_of r) ≡ r) × (n ≡ length (orders_of r))
+  by_records (Err f) u d e = cc
+  by_records (Ok ts) u d e = (refl, sym (upto_length g bs n n ts (all_records ∙ d)))
 
-by_count : (r : Result (List Terms) SavedFault) (n : ℕ) → Ok n ≡ seen length r → (◌≡◌ {A = Result (Unit {0}) SavedFault} (Ok tt) (seen (λ _. tt) r)) × (n ≡ length (orders_of r))
-by_count (Err f) n e = let z : ◌≡◌ {A = ℕ} 0 1 = cc in absurd (omega arith)
-by_count (Ok ts) n e = (refl, cc)
+  pub checked : (u : Unit {0}) → Ok u ≡ seen (λ _. tt) (orders_upto g bs n n) → (Ok (orders_in g bs) ≡ decode g bs) × (n ≡ length (orders_in g bs))
+  checked u e = by_records (decode g bs) u refl (e ∙ ap (seen (λ _. tt)) all_records)
 
--- what it says that the bytes are counted
-pub counted : (g : Grid) (bs : List ℕ) (n : ℕ) → Ok n ≡ seen length (decode g bs) → (Ok tt ≡ accept_answer g bs) × (n ≡ length (orders_in g bs))
-counted g bs n e = by_count (decode g bs) n e
+  by_fault : (r : Result (List Terms) SavedFault) (f : SavedFault) → ◌≡◌ {A = Result (Unit {0}) SavedFault} (Err f) (seen (λ _. tt) r) → Err f ≡ r
+  by_fault (Ok ts) f e = cc
+  by_fault (Err x) f e = cc
 
-by_fault : (r : Result (List Terms) SavedFault) (f : SavedFault) → ◌≡◌ {A = Result ℕ SavedFault} (Err f) (seen length r) → ◌≡◌ {A = Result (Unit {0}) SavedFault} (Err f) (seen (λ _. tt) r)
-by_fault (Ok ts) f e = let z : ◌≡◌ {A = ℕ} 0 1 = cc in absurd (omega arith)
-by_fault (Err x) f e = let d : x ≡ f = cc in ap (λ y. Err y) (sym d)
-
-pub faulted : (g : Grid) (bs : List ℕ) (f : SavedFault) → ◌≡◌ {A = Result ℕ SavedFault} (Err f) (seen length (decode g bs)) → Err f ≡ accept_answer g bs
-faulted g bs f e = by_fault (decode g bs) f e
-
-by_answer : (r : Result (List Terms) SavedFault) (u : Unit {0}) → Ok u ≡ seen (λ _. tt) r → r ≡ Ok (orders_of r)
-by_answer (Err f) u e = let z : ◌≡◌ {A = ℕ} 0 1 = cc in absurd (omega arith)
-by_answer (Ok ts) u e = refl
-
-pub accepted : (g : Grid) (bs : List ℕ) (u : Unit {0}) → Ok u ≡ accept_answer g bs → decode g bs ≡ Ok (orders_in g bs)
-accepted g bs u e = by_answer (decode g bs) u e
+  pub faulted : (f : SavedFault) → ◌≡◌ {A = Result (Unit {0}) SavedFault} (Err f) (seen (λ _. tt) (orders_upto g bs n n)) → Err f ≡ decode g bs
+  faulted f e = by_fault (decode g bs) f (e ∙ ap (seen (λ _. tt)) all_records)

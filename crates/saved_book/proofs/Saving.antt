@@ -1,13 +1,12 @@
 -- Saving what was loaded: the orders that bytes mean are saved as these bytes.
 use Rattle.std.proofs.Common.{◌≡◌, ℕ, zero, suc, ◌+◌, ◌*◌, ◌<◌, ◌≤◌, List, [], ◌∷◌, ◌++◌, length, take, drop, Ok, sym, refl, ap, ◌∙◌, subst, append_assoc, arith, length-drop, take-add}
-use Rattle.std.proofs.lemmas.List.{take-append-drop, take_all, drop-drop}
+use Rattle.std.proofs.lemmas.List.{take-append-drop, take_all, drop-drop, flat_map_more}
 use Rattle.std.specs.List.{flat_map}
 use Rattle.orders.specs.Ticks.{Grid}
 use Rattle.orders.specs.declared.terms.Terms.{Terms}
 use Rattle.saved_book.specs.Calls.{SavesBack}
 use Rattle.saved_book.specs.Decoding.{four_at, ticket_at, record_at, orders_upto}
 use Rattle.saved_book.specs.Encoding.{four, number_bytes, record_bytes, encode}
-use Rattle.saved_book.proofs.Chunks.{joined_push}
 use Rattle.saved_book.proofs.Digits.{Bytes, four_written}
 use Rattle.saved_book.proofs.Opening.{opened}
 use Rattle.saved_book.proofs.Tickets.{read, read_number, passed_bytes, ticket_written}
@@ -24,7 +23,7 @@ one_more f s k xs ts t before here e =
     ap (λ m. take m xs) (sym e)
     ∙ take-add (s * k) s xs
     ∙ (λ i. before i ++ here i)
-    ∙ sym (joined_push f ts t)
+    ∙ flat_map_more f [] ts t
 
 module _ (g : Grid) (bs : List ℕ) (n : ℕ) (long : 8 + 20 * n ≤ length bs) (bytes : Bytes bs) where
   number_stands : (k : ℕ) (t : Terms) → k < n → record_at g bs n k ≡ Ok t → take 4 (drop (8 + 4 * k) bs) ≡ number_bytes t

@@ -1,9 +1,9 @@
 -- The orders of the first records.
-use Rattle.std.proofs.Common.{◌≡◌, ℕ, zero, suc, ◌+◌, ◌-◌, ◌*◌, ◌<◌, Bool, true, false, cond, ◌||◌, eqb, List, [], ◌∷◌, ◌++◌, length, is_ok, Some, Ok, Err, Result, sym, refl, ap, ◌∙◌, subst, ⊎_elim, suc-add, zero-add, arith}
+use Rattle.std.proofs.Common.{◌≡◌, ℕ, zero, suc, ◌+◌, ◌-◌, ◌*◌, ◌<◌, Bool, true, false, cond, ◌||◌, eqb, List, [], ◌∷◌, ◌++◌, length, is_ok, Some, Ok, Err, Result, sym, refl, ap, ◌∙◌, subst, ⊎_elim, suc-add, zero-add, add-zero, arith}
 use Rattle.std.proofs.ByRecursion.{All-push}
 use Rattle.std.proofs.lemmas.List.{length_push}
-use Rattle.std.proofs.lemmas.Bool.{cases_lt, or_right, or_left, eq-eqb, both_ways, cond-true, cond-false}
-use Rattle.std.specs.List.{slice_get, AllByRecursion}
+use Rattle.std.proofs.lemmas.Bool.{cases_lt, both_ways, cond-true, cond-false}
+use Rattle.std.specs.List.{slice_get, AllByRecursion, list_any, range_with_len}
 use Rattle.std.specs.Result.{result_ok}
 use Rattle.orders.specs.Ranges.{in_range}
 use Rattle.orders.specs.Results.{seen}
@@ -30,12 +30,12 @@ pub record Behind (before : Result (List Terms) SavedFault) (here : Result Terms
   pub whole : ts ≡ orders ++ order ∷ []
 
 behind_cond : (k : ℕ) (us : List Terms) (t : Terms) (ts : List Terms) (b : Bool) (f : SavedFault) → held t.number us ≡ b → cond b (Err f) (Ok (us ++ t ∷ [])) ≡ Ok ts → Behind (Ok us) (Ok t) ts
-behind_cond k us t ts true f h e = let z : ◌≡◌ {A = ℕ} 0 1 = cc in absurd (omega arith)
+behind_cond k us t ts true f h e = cc
 behind_cond k us t ts false f h e = record { orders = us; order = t; read_before = refl; read_here = refl; apart = h; whole = cc }
 
 pub behind : (k : ℕ) (before : Result (List Terms) SavedFault) (here : Result Terms RecordFault) (ts : List Terms) → joined_by k before here ≡ Ok ts → Behind before here ts
-behind k (Err f) here ts e = let z : ◌≡◌ {A = ℕ} 0 1 = cc in absurd (omega arith)
-behind k (Ok us) (Err f) ts e = let z : ◌≡◌ {A = ℕ} 0 1 = cc in absurd (omega arith)
+behind k (Err f) here ts e = cc
+behind k (Ok us) (Err f) ts e = cc
 behind k (Ok us) (Ok t) ts e = behind_cond k us t ts (held t.number us) _ refl e
 
 -- a fault stays
@@ -49,6 +49,14 @@ or_swap true true c = refl
 or_swap true false c = refl
 or_swap false b c = refl
 
+-- one more number of a range
+any_more : (p : ℕ → Bool) (a n : ℕ) → list_any p (range_with_len a (suc n)) ≡ p (a + n) || list_any p (range_with_len a n)
+any_more p a zero = ap (λ j. p j || false) (sym (add-zero a))
+any_more p a (suc n) =
+    ap (λ b. p a || b) (any_more p (a + 1) n)
+    ∙ or_swap (p a) (p (a + 1 + n)) (list_any p (range_with_len (a + 1) n))
+    ∙ ap (λ j. p j || list_any p (range_with_len a (suc n))) (omega arith)
+
 nth_before : {X : Type 0} (xs : List X) (y : X) (k : ℕ) → k < length xs → slice_get (xs ++ y ∷ []) k ≡ slice_get xs k
 nth_before [] y k h = absurd (omega arith)
 nth_before (x ∷ xs) y zero h = refl
@@ -60,13 +68,13 @@ nth_last (x ∷ xs) y = nth_last xs y
 
 module _ (g : Grid) (bs : List ℕ) (n : ℕ) where
   pub upto_length : (k : ℕ) (ts : List Terms) → orders_upto g bs n k ≡ Ok ts → length ts ≡ k
-  upto_length zero ts e = let d : [] ≡ ts = cc in subst (λ l. length l ≡ 0) d refl
+  upto_length zero ts e = cc
   upto_length (suc k) ts e =
       let b = behind k (orders_upto g bs n k) (record_at g bs n k) ts e in
       ap length b.whole ∙ length_push b.orders b.order ∙ omega (arith, upto_length k b.orders b.read_before)
 
   pub upto_distinct : (k : ℕ) (ts : List Terms) → orders_upto g bs n k ≡ Ok ts → distinct ts ≡ true
-  upto_distinct zero ts e = let d : [] ≡ ts = cc in subst (λ l. distinct l ≡ true) d refl
+  upto_distinct zero ts e = cc
   upto_distinct (suc k) ts e =
       let b = behind k (orders_upto g bs n k) (record_at g bs n k) ts e in
       ap distinct b.whole ∙ distinct_push b.orders b.order (upto_distinct k b.orders b.read_before) b.apart
@@ -96,34 +104,26 @@ module _ (g : Grid) (bs : List ℕ) (n : ℕ) where
   held_push_is m (u ∷ us) t = ap (λ b. eqb u.number m || b) (held_push_is m us t) ∙ or_swap (eqb u.number m) (eqb t.number m) (held m us)
 
   pub upto_held : (k m : ℕ) (ts : List Terms) → orders_upto g bs n k ≡ Ok ts → held m ts ≡ numbered_before bs m k
-  upto_held zero m ts e = let d : [] ≡ ts = cc in subst (λ l. held m l ≡ false) d refl
+  upto_held zero m ts e = cc
   upto_held (suc k) m ts e =
       let b = behind k (orders_upto g bs n k) (record_at g bs n k) ts e in
       ap (held m) b.whole ∙ held_push_is m b.orders b.order
       ∙ (λ i. eqb (read_number g bs n k b.order b.read_here i) m || upto_held k m b.orders b.read_before i)
-
--- a number that a record before has
-pub numbered_at : (bs : List ℕ) (m k j : ℕ) → j < k → four_at bs (8 + 4 * j) ≡ m → numbered_before bs m k ≡ true
-numbered_at bs m zero j h e = absurd (omega arith)
-numbered_at bs m (suc k) j h e =
-    ⊎_elim
-    (λ lt. or_right _ _ (numbered_at bs m k j lt e))
-    (λ le. let here : j ≡ k = omega arith in or_left _ _ (eq-eqb _ _ (ap (λ i. four_at bs (8 + 4 * i)) (sym here) ∙ e)))
-    (cases_lt j k)
+      ∙ sym (any_more (λ j. eqb (four_at bs (8 + 4 * j)) m) 0 k ∙ ap (λ j. eqb (four_at bs (8 + 4 * j)) m || numbered_before bs m k) (zero-add k))
 
 -- one more record is checked, behind some that are good
 err_by_number : (k : ℕ) (ts : List Terms) (t : Terms) (f : RecordFault) (b : Bool) → held t.number ts ≡ b → ◌≡◌ {A = Result (Unit {0}) RecordFault} (Err f) (cond b (Err (Refused NumberHeld)) (Ok tt)) → joined_by k (Ok ts) (Ok t) ≡ Err (Record k f)
 err_by_number k ts t f true h e = let d : Refused NumberHeld ≡ f = cc in cond-true _ _ _ h ∙ ap (λ x. Err (Record k x)) d
-err_by_number k ts t f false h e = let z : ◌≡◌ {A = ℕ} 0 1 = cc in absurd (omega arith)
+err_by_number k ts t f false h e = cc
 
 ok_by_number : (k : ℕ) (ts : List Terms) (t : Terms) (u : Unit {0}) (b : Bool) → held t.number ts ≡ b → Ok u ≡ cond b (Err (Refused NumberHeld)) (Ok tt) → is_ok (joined_by k (Ok ts) (Ok t)) ≡ true
-ok_by_number k ts t u true h e = let z : ◌≡◌ {A = ℕ} 0 1 = cc in absurd (omega arith)
+ok_by_number k ts t u true h e = cc
 ok_by_number k ts t u false h e = ap is_ok (cond-false _ _ _ h)
 
 module _ (g : Grid) (bs : List ℕ) (n k : ℕ) where
   by_err : (r : Result (List Terms) SavedFault) (h : Result Terms RecordFault) (f : RecordFault) → orders_upto g bs n k ≡ r → is_ok r ≡ true → Err f ≡ alone bs k h → joined_by k r h ≡ Err (Record k f)
   by_err (Err x) h f e o a = absurd (both_ways false refl o)
-  by_err (Ok ts) (Err x) f e o a = let d : x ≡ f = cc in ap (λ y. Err (Record k y)) d
+  by_err (Ok ts) (Err x) f e o a = cc
   by_err (Ok ts) (Ok t) f e o a = err_by_number k ts t f _ (upto_held g bs n k t.number ts e) a
 
   pub checked_err : (f : RecordFault) → is_ok (orders_upto g bs n k) ≡ true → Err f ≡ alone bs k (record_at g bs n k) → orders_upto g bs n (suc k) ≡ Err (Record k f)
@@ -131,7 +131,7 @@ module _ (g : Grid) (bs : List ℕ) (n k : ℕ) where
 
   by_ok : (r : Result (List Terms) SavedFault) (h : Result Terms RecordFault) (u : Unit {0}) → orders_upto g bs n k ≡ r → is_ok r ≡ true → Ok u ≡ alone bs k h → is_ok (joined_by k r h) ≡ true
   by_ok (Err x) h u e o a = absurd (both_ways false refl o)
-  by_ok (Ok ts) (Err x) u e o a = let z : ◌≡◌ {A = ℕ} 0 1 = cc in absurd (omega arith)
+  by_ok (Ok ts) (Err x) u e o a = cc
   by_ok (Ok ts) (Ok t) u e o a = ok_by_number k ts t u _ (upto_held g bs n k t.number ts e) a
 
   pub checked_ok : (u : Unit {0}) → is_ok (orders_upto g bs n k) ≡ true → Ok u ≡ alone bs k (record_at g bs n k) → is_ok (orders_upto g bs n (suc k)) ≡ true

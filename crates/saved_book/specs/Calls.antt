@@ -1,6 +1,5 @@
 -- What saving, accepting and loading give.
 use Rattle.std.specs.Prelude.{◌≡◌, ℕ, ◌<◌, ◌≤◌, Bool, true, cond, ◌&&◌, List, [], ◌++◌, length, drop, IfOk, IfErr, Ok, Err, Result, ◌==◌, nat_le}
-use Rattle.std.specs.Result.{result_map_both}
 use Rattle.std.specs.List.{AllByRecursion}
 use Rattle.orders.specs.Checks.{on_lot, on_tick}
 use Rattle.orders.specs.Ticks.{Grid}
@@ -62,18 +61,14 @@ orders_of (Err f) = []
 abbrev pub orders_in : Grid → List ℕ → List Terms
 orders_in g bs = orders_of (decode g bs)
 
-abbrev pub accept_answer : Grid → List ℕ → Result (Unit {0}) SavedFault
-accept_answer g bs = result_map_both (λ _. tt) (λ f. f) (decode g bs)
-
 -- a fault names one of the records that the head counts, and is numbered from 0 to 4
 abbrev pub NamedFault : List ℕ → SavedFault → Type 0
 NamedFault bs Layout = Unit {0}
 NamedFault bs (Record k f) = (k < four_at bs 0) × (fault_number f ≤ 4)
 
--- bytes accepted as a book: the answer, and the orders that the book means
-pub record Accept (g : Grid) (bs : List ℕ) (answer : Result (Unit {0}) SavedFault) (ts : List Terms) : Type 0 where
-  pub value : answer ≡ accept_answer g bs
-  pub orders : ts ≡ orders_in g bs
+-- bytes accepted as a book: the orders that it means, or the first fault
+pub record Accept (g : Grid) (bs : List ℕ) (answer : Result (List Terms) SavedFault) : Type 0 where
+  pub value : answer ≡ decode g bs
   pub fault : IfErr answer (NamedFault bs)
   pub saves_back : SavesBack g bs
 

@@ -2,12 +2,11 @@
 use Rattle.std.specs.Prelude.{ℕ, zero, suc, ◌+◌, ◌*◌, Bool, cond, ◌&&◌, List, [], ◌∷◌, ◌++◌, length, Some, None, Ok, Err, Option, Result, ◌==◌, nat_le, slice_index}
 use Rattle.std.specs.Result.{result_map_both}
 use Rattle.orders.specs.Checks.{checked_ticket}
+use Rattle.orders.specs.Codes.{side_named, type_named}
 use Rattle.orders.specs.Ticks.{Grid}
 use Rattle.orders.specs.declared.refusal.Refusal.TheVariants.{NumberHeld}
 use Rattle.orders.specs.declared.terms.OrderType.{OrderType}
-use Rattle.orders.specs.declared.terms.OrderType.TheVariants.{Market, Limit, StopMarket, StopLimit}
 use Rattle.orders.specs.declared.terms.Side.{Side}
-use Rattle.orders.specs.declared.terms.Side.TheVariants.{Buy, Sell}
 use Rattle.orders.specs.declared.terms.Terms.{Terms}
 use Rattle.orders.specs.declared.ticket.Ticket.{Ticket}
 use Rattle.book.specs.Lists.{held}
@@ -23,12 +22,6 @@ two_at bs i = slice_index bs i + slice_index bs (i + 1) * 256
 -- the number in the four bytes from a place on
 abbrev pub four_at : List ℕ → ℕ → ℕ
 four_at bs i = slice_index bs i + slice_index bs (i + 1) * 256 + slice_index bs (i + 2) * 65536 + slice_index bs (i + 3) * 16777216
-
-abbrev pub side_named : ℕ → Option Side
-side_named b = cond (b == 0) (Some Buy) (cond (b == 1) (Some Sell) None)
-
-abbrev pub type_named : ℕ → Option OrderType
-type_named b = cond (b == 0) (Some Market) (cond (b == 1) (Some Limit) (cond (b == 2) (Some StopMarket) (cond (b == 3) (Some StopLimit) None)))
 
 -- a ticket, if the codes of its record name a side and a type
 abbrev pub ticket_of : ℕ → ℕ → Option Side → Option OrderType → ℕ → ℕ → ℕ → Option Ticket

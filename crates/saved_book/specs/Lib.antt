@@ -4,3 +4,4 @@ pub mod Decoding
 pub mod Calls
 pub mod Meaning
 pub mod Steps
+pub mod Texts

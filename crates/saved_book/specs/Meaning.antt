@@ -6,4 +6,4 @@ use Rattle.saved_book.specs.Calls.{orders_in}
 use Rattle.saved_book.specs.declared.saved.SavedBook.{SavedBook}
 
 abbrev pub orders_read : SavedBook → List Terms
-orders_read b = orders_in (grid_of b.settings) b.bytes.now
+orders_read b = orders_in (grid_of b.settings) b.layout.bytes.now

@@ -1,14 +1,16 @@
 // Numbers in bytes, the least byte first.
-ghost use Rattle.std.specs.Prelude.{◌≡◌, ◌+◌, ◌≤◌, length};
-ghost use Rattle.saved_book.specs.Decoding.{two_at, four_at};
+ghost use Rattle.std.specs.Prelude.{◌≡◌, ◌+◌, ◌≤◌, length, take, drop};
+ghost use Rattle.saved_book.specs.Decoding.{four_at};
 ghost use Rattle.saved_book.specs.Steps.{laid};
 
-// The number in the two bytes from a place on.
-pub(crate) fn two_at(bytes: &[u8], at: usize) -> u16
-    requires { at + 2 ≤ length bytes.now }
-    ensures { result ≡ two_at bytes.now at }
+// The `N` bytes from a place on.
+pub(crate) fn array_at<const N: usize>(bytes: &[u8], at: usize) -> [u8; N]
+    requires { at + N ≤ length bytes.now }
+    ensures { result ≡ take N (drop at bytes.now) }
 {
-    u16::from_le_bytes([bytes[at], bytes[at + 1]])
+    let mut part = [0; N];
+    part.copy_from_slice(&bytes[at..at + N]);
+    part
 }
 
 // The number in the four bytes from a place on.
@@ -16,7 +18,7 @@ pub(crate) fn four_at(bytes: &[u8], at: usize) -> u32
     requires { at + 4 ≤ length bytes.now }
     ensures { result ≡ four_at bytes.now at }
 {
-    u32::from_le_bytes([bytes[at], bytes[at + 1], bytes[at + 2], bytes[at + 3]])
+    u32::from_le_bytes(array_at(bytes, at))
 }
 
 // Writes a part over the bytes from a place on.

@@ -1,10 +1,13 @@
 // What is wrong with a saved book, and what keeps one from being loaded.
-ghost use Rattle.std.specs.Prelude.{◌≡◌};
+ghost use Rattle.std.specs.Prelude.{◌≡◌, Some};
 ghost use Rattle.saved_book.specs.Faults.{fault_number, saved_refusal, load_refusal};
+ghost use Rattle.saved_book.specs.Texts.{fault_words, fault_text};
 ghost use Rattle.saved_book.specs.declared.fault.LoadFault.TheVariants.{Saved};
-ghost use Rattle.saved_book.specs.declared.fault.RecordFault.TheVariants.{Refused};
+ghost use Rattle.saved_book.specs.declared.fault.RecordFault.TheVariants.{Code, Refused};
 
 use orders::refusal::Refusal;
+use orders::terms::UnknownCode;
+use std::fmt;
 
 // What is wrong with a record.
 #[derive(Clone, Copy, PartialEq, Eq, Debug)]
@@ -64,6 +67,14 @@ impl LoadFault {
     }
 }
 
+impl From<UnknownCode> for RecordFault {
+    ghost from_gives = { λ _ fault. fault ≡ Code };
+
+    fn from(_value: UnknownCode) -> RecordFault {
+        Self::Code
+    }
+}
+
 impl From<Refusal> for RecordFault {
     ghost from_gives = { λ refusal fault. fault ≡ Refused refusal };
 
@@ -77,5 +88,34 @@ impl From<SavedFault> for LoadFault {
 
     fn from(value: SavedFault) -> LoadFault {
         LoadFault::Saved(value)
+    }
+}
+
+// The fault in words.
+impl fmt::Display for RecordFault {
+    ghost output = { λ f. Some (fault_words f) };
+
+    fn fmt<W: fmt::Write>(&self, f: &mut fmt::Formatter<W>) -> fmt::Result {
+        match *self {
+            RecordFault::Code => write!(f, "no side or no kind has this code"),
+            RecordFault::Refused(refusal) => write!(f, "{refusal}"),
+        }
+    }
+}
+
+// The refusal of the fault by its number, and what is wrong.
+impl fmt::Display for SavedFault {
+    ghost output = { λ f. Some (fault_text f) };
+
+    fn fmt<W: fmt::Write>(&self, f: &mut fmt::Formatter<W>) -> fmt::Result {
+        let refusal = self.refusal();
+        let number = refusal.number();
+        match *self {
+            SavedFault::Layout => write!(f, "refusal {number}: {refusal}"),
+            SavedFault::Record { place, fault } => {
+                let kind = fault.number();
+                write!(f, "refusal {number}: record {place}, fault {kind}: {fault}")
+            }
+        }
     }
 }

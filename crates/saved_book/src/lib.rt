@@ -4,6 +4,7 @@
 pub mod accept;
 mod bytes;
 pub mod fault;
+mod layout;
 pub mod load;
 pub mod reading;
 mod records;

@@ -3,8 +3,9 @@ ghost use Rattle.std.specs.Prelude.{◌≡◌, ◌≤◌, [], length};
 ghost use Rattle.orders.specs.Told.{grid_of};
 ghost use Rattle.saved_book.specs.Calls.{takes_up, Load};
 
-use crate::accept::{Accepted, accept};
+use crate::accept::accept;
 use crate::fault::LoadFault;
+use book::iter::orders_of;
 use book::{Book, Store};
 use orders::settings::Settings;
 
@@ -15,11 +16,9 @@ fn fill<B: Book, S: Store>(book: &B, store: &mut S)
     ensures after { S.Book.orders store.new ≡ B.Book.orders book.now }
     ensures same { S.Store.room store.new ≡ S.Store.room store.old }
 {
-    let mut place = 0;
-    while let Some(order) = book.order_at(place) {
+    for order in orders_of(book) {
         // no number is held yet, and there is room: it is never refused
         let _ = store.append(order);
-        place += 1;
     }
 }
 
@@ -34,8 +33,7 @@ fn takes<S: Store>(store: &S, count: usize) -> bool
 pub fn load<S: Store>(settings: Settings, bytes: &[u8], store: &mut S) -> Result<(), LoadFault>
     ensures { Load (grid_of settings) bytes.now (S.Store.room store.old) (S.Book.orders store.old) result (S.Store.room store.new) (S.Book.orders store.new) }
 {
-    let Accepted { book, answer } = accept(settings, bytes);
-    answer?;
+    let book = accept(settings, bytes)?;
     if !takes(store, book.count()) {
         return Err(LoadFault::StoreUnfit);
     }

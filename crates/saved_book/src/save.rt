@@ -1,14 +1,17 @@
 // A book written as bytes.
-ghost use Rattle.std.specs.Prelude.{◌≡◌, ◌+◌, ◌*◌, ◌^◌, ◌<◌, ◌≤◌, ◌++◌, length};
+ghost use Rattle.std.specs.Prelude.{◌≡◌, ℕ, ◌+◌, ◌*◌, ◌≤◌, List, ◌++◌, length};
 ghost use Rattle.std.specs.List.{flat_map, AllByRecursion};
 ghost use Rattle.saved_book.specs.Calls.{Save};
+ghost use Rattle.orders.specs.declared.terms.Terms.{Terms};
 ghost use Rattle.saved_book.specs.Encoding.{four, number_bytes, record_bytes};
-ghost use Rattle.saved_book.specs.Steps.{laid};
+ghost use Rattle.saved_book.specs.Steps.{laid, fits_its_bytes};
 
 use crate::bytes::put;
 use crate::records::record_bytes;
 use book::Book;
+use book::iter::orders_of;
 use orders::refusal::Refusal;
+use orders::terms::Terms;
 
 // Writes the count and the size of a record.
 fn put_head(out: &mut [u8], count: usize)
@@ -20,30 +23,44 @@ fn put_head(out: &mut [u8], count: usize)
     put(out, 4, &16u32.to_le_bytes());
 }
 
-// Writes the number of each order.
-fn put_numbers<B: Book>(book: &B, out: &mut [u8])
-    requires { 8 + 4 * length (B.Book.orders book.now) ≤ length out.old }
-    ensures after { out.new ≡ laid 8 (flat_map number_bytes (B.Book.orders book.now)) out.old }
-    ensures fit { AllByRecursion (λ t. t.number < 2 ^ 32) (B.Book.orders book.now) }
-{
-    let mut place = 0;
-    while let Some(order) = book.order_at(place) {
-        let number = order.terms().number;
-        put(out, 8 + 4 * place, &number.to_le_bytes());
-        place += 1;
+// What one part of a saved book has of each order: `N` bytes.
+trait Part<const N: usize> {
+    ghost part: { Terms → List ℕ };
+
+    fn part_of(terms: Terms) -> [u8; N]
+        ensures { result ≡ part terms };
+}
+
+struct Number;
+
+impl Part<4> for Number {
+    ghost part = { number_bytes };
+
+    fn part_of(terms: Terms) -> [u8; 4] {
+        terms.number.to_le_bytes()
     }
 }
 
-// Writes the record of each order from a place on.
-fn put_records<B: Book>(book: &B, out: &mut [u8], at: usize)
-    requires { at + 16 * length (B.Book.orders book.now) ≤ length out.old }
-    ensures after { out.new ≡ laid at (flat_map record_bytes (B.Book.orders book.now)) out.old }
-    ensures fit { AllByRecursion (λ t. t.participant < 2 ^ 16) (B.Book.orders book.now) }
+struct Record;
+
+impl Part<16> for Record {
+    ghost part = { record_bytes };
+
+    fn part_of(terms: Terms) -> [u8; 16] {
+        record_bytes(terms)
+    }
+}
+
+// Writes the part of each order, one behind another from a place on.
+fn put_each<P: Part<N>, const N: usize, B: Book>(book: &B, out: &mut [u8], at: usize)
+    requires { at + N * length (B.Book.orders book.now) ≤ length out.old }
+    ensures after { out.new ≡ laid at (flat_map P.Part.part (B.Book.orders book.now)) out.old }
+    ensures fit { AllByRecursion fits_its_bytes (B.Book.orders book.now) }
 {
-    let mut place = 0;
-    while let Some(order) = book.order_at(place) {
-        put(out, at + 16 * place, &record_bytes(order.terms()));
-        place += 1;
+    let mut end = at;
+    for order in orders_of(book) {
+        put(out, end, &P::part_of(order.terms()));
+        end += N;
     }
 }
 
@@ -57,7 +74,7 @@ pub fn save<B: Book>(book: &B, out: &mut [u8]) -> Result<usize, Refusal>
         return Err(Refusal::BufferShort);
     }
     put_head(out, count);
-    put_numbers(book, out);
-    put_records(book, out, 8 + 4 * count);
+    put_each::<Number, 4, B>(book, out, 8);
+    put_each::<Record, 16, B>(book, out, 8 + 4 * count);
     Ok(size)
 }

@@ -15,24 +15,26 @@ pub(crate) struct Entry {
 }
 
 // The fields that the terms of an order are saved by.
-pub(crate) fn entry_of(terms: Terms) -> Entry {
-    let (kind, limit, stop) = match terms.kind {
-        Kind::Market => (0, 0, 0),
-        Kind::Limit { limit } => (1, limit, 0),
-        Kind::StopMarket { stop } => (2, 0, stop),
-        Kind::StopLimit { limit, stop } => (3, limit, stop),
-    };
-    Entry {
-        number: terms.number,
-        participant: u32::from(terms.participant),
-        side: match terms.side {
-            Side::Buy => 0,
-            Side::Sell => 1,
-        },
-        kind,
-        quantity: terms.quantity,
-        limit,
-        stop,
+impl From<Terms> for Entry {
+    fn from(value: Terms) -> Entry {
+        let (kind, limit, stop) = match value.kind {
+            Kind::Market => (0, 0, 0),
+            Kind::Limit { limit } => (1, limit, 0),
+            Kind::StopMarket { stop } => (2, 0, stop),
+            Kind::StopLimit { limit, stop } => (3, limit, stop),
+        };
+        Entry {
+            number: value.number,
+            participant: u32::from(value.participant),
+            side: match value.side {
+                Side::Buy => 0,
+                Side::Sell => 1,
+            },
+            kind,
+            quantity: value.quantity,
+            limit,
+            stop,
+        }
     }
 }
 

@@ -1,9 +1,10 @@
 // The faults: each at each field, the first of several, and layouts that do not fit.
 use crate::entry::{Entry, file, saved};
-use crate::reckoning::Verdict;
+use crate::reckoning::Fault;
 use crate::setting::{agrees, good, good_entries, settings};
 use orders::refusal::Refusal;
 use saved_book::accept::accept;
+use saved_book::fault::SavedFault;
 use std::alloc::Global;
 use std::process::Abort;
 use std::test::Fail;
@@ -19,17 +20,14 @@ enum Field {
     Stop,
 }
 
-// A good entry, of which one field is given another value, and its fault by number.
+// A good entry, of which one field is given another value, and its fault by number, if it has one.
 #[derive(Clone, Copy)]
 struct Case {
     good: u32,
     field: Field,
     value: u32,
-    fault: u8,
+    fault: Option<u8>,
 }
-
-// Stands for no fault.
-const NONE: u8 = 5;
 
 // The good entries: 5 a limit order, 6 a stop market order, 7 a stop limit order, 8 a market order.
 static CASES: [Case; 26] = [
@@ -37,157 +35,157 @@ static CASES: [Case; 26] = [
         good: 5,
         field: Field::Number,
         value: 4_294_967_295,
-        fault: NONE,
+        fault: None,
     },
     Case {
         good: 5,
         field: Field::Participant,
         value: 65_535,
-        fault: NONE,
+        fault: None,
     },
     Case {
         good: 6,
         field: Field::Side,
         value: 1,
-        fault: NONE,
+        fault: None,
     },
     Case {
         good: 5,
         field: Field::Side,
         value: 2,
-        fault: 0,
+        fault: Some(0),
     },
     Case {
         good: 5,
         field: Field::Side,
         value: 255,
-        fault: 0,
+        fault: Some(0),
     },
     Case {
         good: 5,
         field: Field::Kind,
         value: 4,
-        fault: 0,
+        fault: Some(0),
     },
     Case {
         good: 5,
         field: Field::Number,
         value: 0,
-        fault: 1,
+        fault: Some(1),
     },
     Case {
         good: 5,
         field: Field::Participant,
         value: 0,
-        fault: 1,
+        fault: Some(1),
     },
     Case {
         good: 5,
         field: Field::Quantity,
         value: 0,
-        fault: 2,
+        fault: Some(2),
     },
     Case {
         good: 5,
         field: Field::Quantity,
         value: 15,
-        fault: 2,
+        fault: Some(2),
     },
     Case {
         good: 5,
         field: Field::Quantity,
         value: 1_000_010,
-        fault: 2,
+        fault: Some(2),
     },
     Case {
         good: 5,
         field: Field::Quantity,
         value: 1_000_000,
-        fault: NONE,
+        fault: None,
     },
     Case {
         good: 5,
         field: Field::Limit,
         value: 0,
-        fault: 3,
+        fault: Some(3),
     },
     Case {
         good: 5,
         field: Field::Limit,
         value: 1_005,
-        fault: 3,
+        fault: Some(3),
     },
     Case {
         good: 5,
         field: Field::Limit,
         value: 1_000_000_010,
-        fault: 3,
+        fault: Some(3),
     },
     Case {
         good: 5,
         field: Field::Limit,
         value: 1_000_000_000,
-        fault: NONE,
+        fault: None,
     },
     Case {
         good: 5,
         field: Field::Stop,
         value: 990,
-        fault: 3,
+        fault: Some(3),
     },
     Case {
         good: 6,
         field: Field::Stop,
         value: 0,
-        fault: 3,
+        fault: Some(3),
     },
     Case {
         good: 6,
         field: Field::Stop,
         value: 995,
-        fault: 3,
+        fault: Some(3),
     },
     Case {
         good: 6,
         field: Field::Limit,
         value: 1_000,
-        fault: 3,
+        fault: Some(3),
     },
     Case {
         good: 7,
         field: Field::Limit,
         value: 0,
-        fault: 3,
+        fault: Some(3),
     },
     Case {
         good: 7,
         field: Field::Stop,
         value: 0,
-        fault: 3,
+        fault: Some(3),
     },
     Case {
         good: 8,
         field: Field::Limit,
         value: 1_000,
-        fault: 3,
+        fault: Some(3),
     },
     Case {
         good: 8,
         field: Field::Stop,
         value: 990,
-        fault: 3,
+        fault: Some(3),
     },
     Case {
         good: 5,
         field: Field::Number,
         value: 2,
-        fault: 4,
+        fault: Some(4),
     },
     Case {
         good: 8,
         field: Field::Number,
         value: 1,
-        fault: 4,
+        fault: Some(4),
     },
 ];
 
@@ -273,12 +271,11 @@ fn changed(entry: Entry, field: Field, value: u32) -> Entry {
     }
 }
 
-// The entry as the last of three records has this fault.
-fn check_last(rt: &impl Abort, heap: Global, entry: Entry, fault: u8) -> Result<(), Fail> {
-    let expected = if fault == NONE {
-        Verdict::Good
-    } else {
-        Verdict::Record { place: 2, fault }
+// The entry as the last of three records has this fault, or none.
+fn check_last(rt: &impl Abort, heap: Global, entry: Entry, fault: Option<u8>) -> Result<(), Fail> {
+    let expected = match fault {
+        Some(fault) => Err(Fault::Record { place: 2, fault }),
+        None => Ok(()),
     };
     let bytes = saved(heap, &[good(1), good(2), entry])?;
     assert_eq!(rt; agrees(rt, heap, bytes.as_slice())?, expected);
@@ -297,10 +294,8 @@ fn each_fault_at_each_field(rt: HostRuntime) -> Result<(), Fail> {
 // Of several faults the first is told, in the sequence 0 to 4.
 #[test]
 fn the_first_fault_is_told(rt: HostRuntime) -> Result<(), Fail> {
-    let mut fault = 0u8;
-    for entry in FIRST.iter() {
-        check_last(&rt, rt.alloc(), *entry, fault)?;
-        fault = fault.saturating_add(1);
+    for (entry, fault) in FIRST.iter().zip(0u8..5) {
+        check_last(&rt, rt.alloc(), *entry, Some(fault))?;
     }
     Ok(())
 }
@@ -309,7 +304,7 @@ fn the_first_fault_is_told(rt: HostRuntime) -> Result<(), Fail> {
 #[test]
 fn the_first_bad_record_is_told(rt: HostRuntime) -> Result<(), Fail> {
     let bytes = saved(rt.alloc(), &[good(1), FIRST[4], FIRST[0]])?;
-    let first = Verdict::Record { place: 1, fault: 4 };
+    let first = Err(Fault::Record { place: 1, fault: 4 });
     assert_eq!(rt; agrees(&rt, rt.alloc(), bytes.as_slice())?, first);
     Ok(())
 }
@@ -321,17 +316,17 @@ fn every_other_length_is_refused(rt: HostRuntime) -> Result<(), Fail> {
     for length in 0..bytes.len() {
         assert_eq!(rt;
             agrees(&rt, rt.alloc(), &bytes.as_slice()[0..length])?,
-            Verdict::Layout
+            Err(Fault::Layout)
         );
     }
     for _ in 0..40 {
         longer.push(0)?;
         assert_eq!(rt;
             agrees(&rt, rt.alloc(), longer.as_slice())?,
-            Verdict::Layout
+            Err(Fault::Layout)
         );
     }
-    assert_eq!(rt; agrees(&rt, rt.alloc(), bytes.as_slice())?, Verdict::Good);
+    assert_eq!(rt; agrees(&rt, rt.alloc(), bytes.as_slice())?, Ok(()));
     Ok(())
 }
 
@@ -342,7 +337,7 @@ fn check_head(
     entries: &[Entry],
     count: u32,
     record_size: u32,
-    expected: Verdict,
+    expected: Result<(), Fault>,
 ) -> Result<(), Fail> {
     let bytes = file(heap, count, record_size, entries)?;
     assert_eq!(rt; agrees(rt, heap, bytes.as_slice())?, expected);
@@ -354,9 +349,9 @@ fn counts_and_record_sizes(rt: HostRuntime) -> Result<(), Fail> {
     for count in [0, 1, 256, 257] {
         let made = good_entries(rt.alloc(), count)?;
         let expected = if count == 257 {
-            Verdict::Layout
+            Err(Fault::Layout)
         } else {
-            Verdict::Good
+            Ok(())
         };
         check_head(&rt, rt.alloc(), made.as_slice(), count, 16, expected)?;
         for record_size in [0, 15, 17, 4_096, 268_435_472] {
@@ -366,11 +361,18 @@ fn counts_and_record_sizes(rt: HostRuntime) -> Result<(), Fail> {
                 made.as_slice(),
                 count,
                 record_size,
-                Verdict::Layout,
+                Err(Fault::Layout),
             )?;
         }
         for other in [2, 255, 65_536, 4_294_967_295] {
-            check_head(&rt, rt.alloc(), made.as_slice(), other, 16, Verdict::Layout)?;
+            check_head(
+                &rt,
+                rt.alloc(),
+                made.as_slice(),
+                other,
+                16,
+                Err(Fault::Layout),
+            )?;
         }
     }
     Ok(())
@@ -378,10 +380,7 @@ fn counts_and_record_sizes(rt: HostRuntime) -> Result<(), Fail> {
 
 // The refusal of bytes that are not accepted.
 fn refusal_of(bytes: &[u8]) -> Result<Option<Refusal>, Fail> {
-    match accept(settings()?, bytes).answer {
-        Ok(()) => Ok(None),
-        Err(fault) => Ok(Some(fault.refusal())),
-    }
+    Ok(accept(settings()?, bytes).err().map(SavedFault::refusal))
 }
 
 // The refusals behind the two kinds of fault.

@@ -1,6 +1,5 @@
 // Random bytes, random files and damaged files, beside the decoder written apart.
 use crate::entry::{Entry, file, saved};
-use crate::reckoning::Verdict;
 use crate::setting::{Random, agrees, good_entries};
 use std::alloc::Global;
 use std::test::Fail;
@@ -79,7 +78,7 @@ fn random_bytes_and_files(rt: HostRuntime) -> Result<(), Fail> {
     let mut random = Random::new(3);
     let mut good = 0u32;
     for _ in 0..3_000 {
-        agrees(
+        let _ = agrees(
             &rt,
             rt.alloc(),
             random_bytes(rt.alloc(), &mut random)?.as_slice(),
@@ -89,7 +88,7 @@ fn random_bytes_and_files(rt: HostRuntime) -> Result<(), Fail> {
             rt.alloc(),
             random_file(rt.alloc(), &mut random)?.as_slice(),
         )?;
-        if matches!(found, Verdict::Good) {
+        if found.is_ok() {
             good = good.saturating_add(1);
         }
     }
@@ -104,19 +103,14 @@ fn random_bytes_and_files(rt: HostRuntime) -> Result<(), Fail> {
 fn one_byte_damaged(rt: HostRuntime) -> Result<(), Fail> {
     let mut random = Random::new(8);
     let entries = good_entries(rt.alloc(), 8)?;
-    let mut bytes = saved(rt.alloc(), entries.as_slice())?;
-    for place in 0..bytes.len() {
-        if place < bytes.len() {
-            let right = bytes[place];
-            for _ in 0..12 {
-                if place < bytes.len() {
-                    bytes[place] = random.byte();
-                }
-                agrees(&rt, rt.alloc(), bytes.as_slice())?;
+    let right = saved(rt.alloc(), entries.as_slice())?;
+    for place in 0..right.len() {
+        let mut bytes = saved(rt.alloc(), entries.as_slice())?;
+        for _ in 0..12 {
+            if let Some(byte) = bytes.get_mut(place) {
+                *byte = random.byte();
             }
-            if place < bytes.len() {
-                bytes[place] = right;
-            }
+            let _ = agrees(&rt, rt.alloc(), bytes.as_slice())?;
         }
     }
     Ok(())

@@ -3,10 +3,9 @@ use crate::entry::Entry;
 use std::alloc::Global;
 use std::test::Fail;
 
-// What is to be said of bytes.
+// The first fault of bytes; that of a record is told by its number.
 #[derive(Clone, Copy, PartialEq, Eq, Debug)]
-pub(crate) enum Verdict {
-    Good,
+pub(crate) enum Fault {
     Layout,
     Record { place: usize, fault: u8 },
 }
@@ -14,15 +13,10 @@ pub(crate) enum Verdict {
 // The number in `size` bytes from a place on; a byte that is not there counts as 0.
 fn number_at(bytes: &[u8], at: usize, size: usize) -> u32 {
     let mut number = 0u32;
-    for back in 0..size {
-        let place = at
-            .saturating_add(size.saturating_sub(back))
-            .saturating_sub(1);
-        let byte = match bytes.get(place) {
-            Some(byte) => u32::from(*byte),
-            None => 0,
-        };
-        number = number.wrapping_mul(256).wrapping_add(byte);
+    let mut worth = 1u32;
+    for byte in bytes.iter().skip(at).take(size) {
+        number = u32::from(*byte).wrapping_mul(worth).wrapping_add(number);
+        worth = worth.wrapping_mul(256);
     }
     number
 }
@@ -69,7 +63,7 @@ fn fault_of(entry: Entry, lot: u32, tick: u32) -> Option<u8> {
 }
 
 // The entries that the head counts, good or not.
-pub(crate) fn entries(heap: Global, bytes: &[u8]) -> Result<Vec<Entry>, Fail> {
+fn entries(heap: Global, bytes: &[u8]) -> Result<Vec<Entry>, Fail> {
     let count = number_at(bytes, 0, 4) as usize;
     let mut found = Vec::new(heap);
     for place in 0..count.min(256) {
@@ -86,19 +80,26 @@ fn is_laid_out(bytes: &[u8]) -> bool {
         && length == count.saturating_mul(20).saturating_add(8)
 }
 
-pub(crate) fn judge(heap: Global, bytes: &[u8], lot: u32, tick: u32) -> Result<Verdict, Fail> {
+// The entries that bytes mean, or their first fault.
+pub(crate) fn judge(
+    heap: Global,
+    bytes: &[u8],
+    lot: u32,
+    tick: u32,
+) -> Result<Result<Vec<Entry>, Fault>, Fail> {
     if !is_laid_out(bytes) {
-        return Ok(Verdict::Layout);
+        return Ok(Err(Fault::Layout));
     }
+    let found = entries(heap, bytes)?;
     let mut seen = Vec::new(heap);
-    for (place, entry) in entries(heap, bytes)?.as_slice().iter().enumerate() {
+    for (place, entry) in found.as_slice().iter().enumerate() {
         if let Some(fault) = fault_of(*entry, lot, tick) {
-            return Ok(Verdict::Record { place, fault });
+            return Ok(Err(Fault::Record { place, fault }));
         }
         if seen.as_slice().contains(&entry.number) {
-            return Ok(Verdict::Record { place, fault: 4 });
+            return Ok(Err(Fault::Record { place, fault: 4 }));
         }
         seen.push(entry.number)?;
     }
-    Ok(Verdict::Good)
+    Ok(Ok(found))
 }

@@ -1,9 +1,10 @@
 // What the tests share: a lot of 10 and a tick of 10, good entries, books as entries, and numbers that look random.
-use crate::entry::{Entry, entry_of};
-use crate::reckoning::{Verdict, entries, judge};
+use crate::entry::Entry;
+use crate::reckoning::{Fault, judge};
 use book::Book;
+use book::iter::orders_of;
 use orders::settings::Settings;
-use saved_book::accept::{Accepted, accept};
+use saved_book::accept::accept;
 use saved_book::fault::SavedFault;
 use std::alloc::Global;
 use std::process::Abort;
@@ -41,38 +42,46 @@ pub(crate) fn read_all<B: Book>(
     book: &B,
 ) -> Result<Vec<Entry>, Fail> {
     let mut read = Vec::new(heap);
-    for place in 0..300 {
-        if let Some(order) = book.order_at(place) {
-            read.push(entry_of(order.terms()))?;
-        }
+    for order in orders_of(book) {
+        read.push(Entry::from(order.terms()))?;
     }
     assert_eq!(rt; book.count(), read.len());
+    assert!(rt; (read.len()..300).all(|place| book.order_at(place).is_none()));
     Ok(read)
 }
 
-pub(crate) fn told(answer: Result<(), SavedFault>) -> Verdict {
-    match answer {
-        Ok(()) => Verdict::Good,
-        Err(SavedFault::Layout) => Verdict::Layout,
-        Err(SavedFault::Record { place, fault }) => Verdict::Record {
-            place,
-            fault: fault.number(),
-        },
+impl From<SavedFault> for Fault {
+    fn from(value: SavedFault) -> Fault {
+        match value {
+            SavedFault::Layout => Fault::Layout,
+            SavedFault::Record { place, fault } => Fault::Record {
+                place,
+                fault: fault.number(),
+            },
+        }
     }
 }
 
 // The engine says of the bytes what the decoder written apart says.
-pub(crate) fn agrees(rt: &impl Abort, heap: Global, bytes: &[u8]) -> Result<Verdict, Fail> {
-    let expected = judge(heap, bytes, 10, 10)?;
-    let Accepted { book, answer } = accept(settings()?, bytes);
-    assert_eq!(rt; told(answer), expected);
-    let read = read_all(rt, heap, &book)?;
-    if matches!(expected, Verdict::Good) {
-        assert_eq!(rt; read, entries(heap, bytes)?);
-    } else {
-        assert_eq!(rt; read.len(), 0);
+pub(crate) fn agrees(
+    rt: &impl Abort,
+    heap: Global,
+    bytes: &[u8],
+) -> Result<Result<(), Fault>, Fail> {
+    match (
+        accept(settings()?, bytes).map_err(Fault::from),
+        judge(heap, bytes, 10, 10)?,
+    ) {
+        (Ok(book), Ok(entries)) => {
+            assert_eq!(rt; read_all(rt, heap, &book)?, entries);
+            Ok(Ok(()))
+        }
+        (accepted, judged) => {
+            let expected = judged.map(|_| ());
+            assert_eq!(rt; accepted.map(|_| ()), expected);
+            Ok(expected)
+        }
     }
-    Ok(expected)
 }
 
 #[derive(Drop)]

@@ -7,7 +7,8 @@ use orders::refusal::Refusal;
 use pricing::quote::Quote;
 use pricing::trial::{TrialPrice, trial_price};
 use row_table::table::RowTable;
-use saved_book::accept::{Accepted, accept};
+use saved_book::accept::accept;
+use saved_book::fault::LoadFault;
 use saved_book::load::load;
 use saved_book::save::save;
 use std::alloc::Global;
@@ -39,10 +40,11 @@ fn check_saved<B: Book>(rt: &impl Abort, heap: Global, book: &B, bytes: &[u8]) -
 
 // The refusal of a load, or none.
 fn refused<S: Store>(store: &mut S, bytes: &[u8]) -> Result<Option<Refusal>, Fail> {
-    match load(settings()?, bytes, store) {
-        Ok(()) => Ok(None),
-        Err(fault) => Ok(Some(fault.refusal())),
-    }
+    Ok(
+        load(settings()?, bytes, store)
+            .err()
+            .map(LoadFault::refusal),
+    )
 }
 
 // Bytes loaded into an empty store that has room for just these orders, and saved again.
@@ -89,8 +91,7 @@ fn saved_and_loaded(rt: HostRuntime) -> Result<(), Fail> {
             entries.as_slice(),
             bytes.as_slice(),
         )?;
-        let Accepted { book, answer } = accept(settings()?, bytes.as_slice());
-        assert!(rt; answer.is_ok());
+        let book = accept(settings()?, bytes.as_slice())?;
         check_saved(&rt, rt.alloc(), &book, bytes.as_slice())?;
     }
     Ok(())
@@ -157,8 +158,7 @@ fn trial_price_over_saved_bytes(rt: HostRuntime) -> Result<(), Fail> {
         bid_volume: 0,
         ask_volume: 0,
     };
-    let Accepted { book, answer } = accept(settings()?, bytes.as_slice());
-    assert!(rt; answer.is_ok());
+    let book = accept(settings()?, bytes.as_slice())?;
     let mut rows = RowTable::new(rt.alloc(), 3)?;
     assert_eq!(rt; refused(&mut rows, bytes.as_slice())?, None);
     let expected = TrialPrice::Priced {

@@ -4,12 +4,13 @@
 use crate::line::Line;
 use crate::request::{Request, request_of};
 use book::Book;
+use book::iter::orders_of;
 use book::open::open_figure;
 use orders::refusal::Refusal;
 use orders::settings::Settings;
 use pricing::quote::Quote;
 use pricing::trial::{TrialPrice, trial_price};
-use saved_book::accept::{Accepted, accept};
+use saved_book::accept::accept;
 use std::env;
 use std::io::Read;
 
@@ -68,10 +69,8 @@ fn show_book<B: Book>(
     quote: Quote,
 ) -> anyhow::Result<()> {
     say(rt, Line::Heading)?;
-    for place in 0..book.count() {
-        if let Some(order) = book.order_at(place) {
-            say(rt, Line::Order(order.terms()))?;
-        }
+    for order in orders_of(book) {
+        say(rt, Line::Order(order.terms()))?;
     }
     say(rt, Line::Open(open_figure(book)))?;
     show_price(rt, trial_price(settings, book, quote))
@@ -81,9 +80,8 @@ fn show_book<B: Book>(
 fn show_input(rt: &HostRuntime, settings: Settings, quote: Quote) -> anyhow::Result<()> {
     let mut bytes = Vec::new(rt.alloc());
     rt.stdin().read_to_end(&mut bytes)?;
-    let Accepted { book, answer } = accept(settings, bytes.as_slice());
-    match answer {
-        Ok(()) => show_book(rt, settings, &book, quote),
+    match accept(settings, bytes.as_slice()) {
+        Ok(book) => show_book(rt, settings, &book, quote),
         Err(fault) => say(rt, Line::Fault(fault)),
     }
 }

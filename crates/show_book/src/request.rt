@@ -18,17 +18,14 @@ pub(crate) fn request_of(numbers: &[u32]) -> Option<Request>
     let [lot, tick_class, bid, ask, bid_volume, ask_volume] = numbers else {
         return None;
     };
-    match u16::try_from(*lot) {
-        Ok(lot) => Some(Request {
-            lot,
-            tick_class: *tick_class,
-            quote: Quote {
-                bid: *bid,
-                ask: *ask,
-                bid_volume: *bid_volume,
-                ask_volume: *ask_volume,
-            },
-        }),
-        Err(_) => None,
-    }
+    Some(Request {
+        lot: u16::try_from(*lot).ok()?,
+        tick_class: *tick_class,
+        quote: Quote {
+            bid: *bid,
+            ask: *ask,
+            bid_volume: *bid_volume,
+            ask_volume: *ask_volume,
+        },
+    })
 }

@@ -1,52 +1,10 @@
 // The text of each line.
-ghost use Rattle.std.specs.Prelude.{◌≡◌};
-ghost use Rattle.show_book.specs.Texts.{words_of, fault_words, line_text};
+ghost use Rattle.show_book.specs.Texts.{line_text};
 
 use crate::line::Line;
 use book::open::OpenFigure;
-use orders::refusal::Refusal;
-use orders::terms::{Kind, Side, Terms};
-use saved_book::fault::{RecordFault, SavedFault};
+use orders::terms::{OrderType, Side, Terms};
 use std::fmt;
-
-fn words(refusal: Refusal) -> &'static str
-    ensures { result.now ≡ words_of refusal }
-{
-    match refusal {
-        Refusal::Identity => "the order number or the participant is 0",
-        Refusal::Quantity => "the quantity is 0, above 1000000 or off the lot",
-        Refusal::Price =>
-            "a limit or stop limit is out of range, off the tick, missing or not of the kind",
-        Refusal::NumberHeld => "the number is held already",
-        Refusal::NumberUnknown => "the number is unknown",
-        Refusal::OtherParticipant => "the order is another participant's",
-        Refusal::SideOrKind => "the side or the kind differs",
-        Refusal::BookFull => "the book is full",
-        Refusal::LockedStockFull => "the locked stock is full",
-        Refusal::RequestListFull => "the request list is full",
-        Refusal::QuotePrices => "the prices of the quote",
-        Refusal::QuoteVolumes => "the volumes of the quote",
-        Refusal::WrongPhase => "the line does not belong to the phase",
-        Refusal::Settings => "the lot or the tick class is out of range",
-        Refusal::Capacity => "no store or line has this capacity",
-        Refusal::FillEntries => "fewer fill entries than orders",
-        Refusal::ReceiptEntries => "fewer receipt entries than places in the locked stock",
-        Refusal::Text => "the text of the line",
-        Refusal::SavedLayout => "the count, the record size or the length of the saved book",
-        Refusal::SavedRecord => "a record of the saved book",
-        Refusal::StoreUnfit => "the store is not empty or too small",
-        Refusal::BufferShort => "the buffer is too short",
-    }
-}
-
-fn fault_words(fault: RecordFault) -> &'static str
-    ensures { result.now ≡ fault_words fault }
-{
-    match fault {
-        RecordFault::Code => "no side or no kind has this code",
-        RecordFault::Refused(refusal) => words(refusal),
-    }
-}
 
 fn side_name(side: Side) -> &'static str {
     match side {
@@ -55,39 +13,44 @@ fn side_name(side: Side) -> &'static str {
     }
 }
 
-// An order in columns; a price that its kind lacks is a dash.
+fn type_name(order_type: OrderType) -> &'static str {
+    match order_type {
+        OrderType::Market => "market",
+        OrderType::Limit => "limit",
+        OrderType::StopMarket => "stop market",
+        OrderType::StopLimit => "stop limit",
+    }
+}
+
+// A price in its column; a dash where there is none.
+#[derive(Clone, Copy)]
+struct Price(Option<u32>);
+
+impl fmt::Display for Price {
+    fn fmt<W: fmt::Write>(&self, f: &mut fmt::Formatter<W>) -> fmt::Result {
+        match self.0 {
+            Some(price) => write!(f, "{price:>10}"),
+            None => write!(f, "{:>10}", "-"),
+        }
+    }
+}
+
+// An order in columns.
 fn write_order<W: fmt::Write>(terms: Terms, f: &mut fmt::Formatter<W>) -> fmt::Result {
     let Terms {
         number,
         participant,
-        kind,
         quantity,
         ..
     } = terms;
     let side = side_name(terms.side);
-    write!(f, "{number:>10}  {participant:>11}  {side:<4}  ")?;
-    match kind {
-        Kind::Market => write!(
-            f,
-            "{:<11}  {quantity:>8}  {:>10}  {:>10}",
-            "market", "-", "-"
-        ),
-        Kind::Limit { limit } => write!(
-            f,
-            "{:<11}  {quantity:>8}  {limit:>10}  {:>10}",
-            "limit", "-"
-        ),
-        Kind::StopMarket { stop } => write!(
-            f,
-            "{:<11}  {quantity:>8}  {:>10}  {stop:>10}",
-            "stop market", "-"
-        ),
-        Kind::StopLimit { limit, stop } => write!(
-            f,
-            "{:<11}  {quantity:>8}  {limit:>10}  {stop:>10}",
-            "stop limit"
-        ),
-    }
+    let kind = type_name(terms.kind.order_type());
+    let limit = Price(terms.kind.limit());
+    let stop = Price(terms.kind.stop());
+    write!(
+        f,
+        "{number:>10}  {participant:>11}  {side:<4}  {kind:<11}  {quantity:>8}  {limit}  {stop}"
+    )
 }
 
 impl fmt::Display for Line {
@@ -115,23 +78,9 @@ impl fmt::Display for Line {
             Line::NoQuote => write!(f, "price: none, the quote is refused"),
             Line::Refused(refusal) => {
                 let number = refusal.number();
-                let words = words(refusal);
-                write!(f, "refusal {number}: {words}")
+                write!(f, "refusal {number}: {refusal}")
             }
-            Line::Fault(SavedFault::Layout) => {
-                let number = Refusal::SavedLayout.number();
-                let words = words(Refusal::SavedLayout);
-                write!(f, "refusal {number}: {words}")
-            }
-            Line::Fault(SavedFault::Record { place, fault }) => {
-                let refusal = Refusal::SavedRecord.number();
-                let number = fault.number();
-                let words = fault_words(fault);
-                write!(
-                    f,
-                    "refusal {refusal}: record {place}, fault {number}: {words}"
-                )
-            }
+            Line::Fault(fault) => write!(f, "{fault}"),
         }
     }
 }

@@ -8,24 +8,17 @@ use Rattle.saved_book.proofs.accept.check_records.Goals as goal
 pub returns-in-Err : goal.returns-in-Err
 returns-in-Err c =
     let g = grid_of c.args.settings in
-    let bs = c.args.bytes.now in
-    let n = c.args.count in
+    let bs = c.args.layout.now.bytes.now in
+    let n = c.args.layout.now.count in
     let k = c.loop-place.place in
     sym (ap (seen (λ _. tt)) (stays_to g bs n k _ c.loop-place-test.true (checked_err g bs n k c.in-Err.fault c.loop-place.invariant c.in-Err.ensures)))
 
 pub loop-place-preserved : goal.loop-place-preserved
 loop-place-preserved c =
     let g = grid_of c.args.settings in
-    let bs = c.args.bytes.now in
-    let n = c.args.count in
+    let bs = c.args.layout.now.bytes.now in
+    let n = c.args.layout.now.count in
     let k = c.loop-place.place in
     ap (λ m. is_ok (orders_upto g bs n m)) (add-one k)
     ∙ checked_ok g bs n k c.in_default.field-0 c.loop-place.invariant c.in_default.ensures
 
-pub returns : goal.returns
-returns c =
-    let g = grid_of c.args.settings in
-    let bs = c.args.bytes.now in
-    let n = c.args.count in
-    let all : c.loop-place.place ≡ c.args.count = omega (arith, c.loop-place-test.false, c.loop-place.auto.place-end) in
-    ok_told (orders_upto g bs n n) (ap (λ m. is_ok (orders_upto g bs n m)) (sym all) ∙ c.loop-place.invariant)

@@ -18,6 +18,6 @@ returns g c =
     let room : has_room (g.B.Book.orders c.args.book.now) c.args.out.now ≡ true = le-leb _ _ (omega (arith, length_encode ts, c.count-count.ensures.value)) in
     record {
       value = rw room (ap (λ m. Ok m) (omega (arith, length_encode ts, c.count-count.ensures.value)));
-      after = rw room (wrote_book ts n c.args.out.now c.put_head.new.out c.put_numbers.new.out c.put_records.new.out c.count-count.ensures.value (omega arith) c.put_head.ensures c.put_numbers.ensures.after c.put_records.ensures.after);
-      loads_back = loads_back ts c.count-count.ensures.sound c.put_numbers.ensures.fit c.put_records.ensures.fit;
+      after = rw room (wrote_book ts n c.args.out.now c.put_head.new.out c.put_each.new.out c.put_each-2.new.out c.count-count.ensures.value (omega arith) c.put_head.ensures c.put_each.ensures.after c.put_each-2.ensures.after);
+      loads_back = loads_back ts c.count-count.ensures.sound c.put_each.ensures.fit;
     }
