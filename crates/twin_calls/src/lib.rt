@@ -28,16 +28,6 @@ fn keep(twin: &mut Vec<Call>, call: Call) -> Result<(), AllocError>
     Ok(())
 }
 
-// Sends instructions one after the other.
-fn send_all(twin: &mut Vec<Call>, held: &[Instruction<Ticket>]) -> Result<(), AllocError>
-    ensures { OnOk result (twin.new.items ≡ twin.old.items ++ map Send held.now) }
-{
-    for instruction in held {
-        twin.push(Call::Send(*instruction))?;
-    }
-    Ok(())
-}
-
 // The call that ends a freeze, and then as many of the held instructions as it has receipts.
 fn end(
     twin: &mut Vec<Call>,
@@ -48,8 +38,8 @@ fn end(
     ensures { OnOk result (twin.new.items ≡ twin.old.items ++ call ∷ map Send (take receipts held.now)) }
 {
     twin.push(call)?;
-    let told = receipts.min(held.len());
-    send_all(twin, &held[0..told])?;
+    let told = held.iter().take(receipts);
+    twin.extend(told.map(|instruction| Call::Send(*instruction)))?;
     Ok(())
 }
 
