@@ -68,14 +68,7 @@ fn send<S: Store>(pre_call: &PreCall, store: &mut S, instruction: Instruction<Ti
     ensures after { S.Book.orders store.new ≡ sent_book (grid_under pre_call.now) (S.Store.room store.old) instruction (S.Book.orders store.old) }
     ensures same { S.Store.room store.new ≡ S.Store.room store.old }
 {
-    match instruction {
-        Instruction::Enter(ticket) => done(pre_call.enter(store, ticket)),
-        Instruction::Change(ticket) => done(pre_call.change(store, ticket)),
-        Instruction::Delete {
-            number,
-            participant,
-        } => done(pre_call.delete(store, number, participant)),
-    }
+    done(pre_call.send(store, instruction))
 }
 
 // The answer to an instruction that waits or was refused.
@@ -92,14 +85,7 @@ fn waiting(answer: Result<(), Refusal>) -> Answer
 fn wait(frozen: &Frozen, stock: &mut LockedStock<'_>, instruction: Instruction<Ticket>) -> Answer
     ensures { Waits (grid_frozen frozen.now) instruction stock.old result stock.new }
 {
-    match instruction {
-        Instruction::Enter(ticket) => waiting(frozen.enter(stock, ticket)),
-        Instruction::Change(ticket) => waiting(frozen.change(stock, ticket)),
-        Instruction::Delete {
-            number,
-            participant,
-        } => waiting(frozen.delete(stock, number, participant)),
-    }
+    waiting(frozen.send(stock, instruction))
 }
 
 // Notes a call with its answer alone.

@@ -105,18 +105,29 @@ fn hold_match<S: Store>(
 }
 
 impl Frozen {
+    // An instruction waits to be carried out.
+    pub fn send(
+        &self,
+        stock: &mut LockedStock<'_>,
+        instruction: Instruction<Ticket>,
+    ) -> Result<(), Refusal>
+        ensures { HeldBy (checked (grid_frozen self.now) instruction) stock.old result stock.new }
+    {
+        hold(stock, self.settings, instruction)
+    }
+
     // An order waits to be entered.
     pub fn enter(&self, stock: &mut LockedStock<'_>, ticket: Ticket) -> Result<(), Refusal>
         ensures { HeldBy (checked (grid_frozen self.now) (Enter ticket)) stock.old result stock.new }
     {
-        hold(stock, self.settings, Instruction::Enter(ticket))
+        self.send(stock, Instruction::Enter(ticket))
     }
 
     // A change waits to be made.
     pub fn change(&self, stock: &mut LockedStock<'_>, ticket: Ticket) -> Result<(), Refusal>
         ensures { HeldBy (checked (grid_frozen self.now) (Change ticket)) stock.old result stock.new }
     {
-        hold(stock, self.settings, Instruction::Change(ticket))
+        self.send(stock, Instruction::Change(ticket))
     }
 
     // A deletion waits to be carried out.
@@ -128,9 +139,8 @@ impl Frozen {
     ) -> Result<(), Refusal>
         ensures { HeldBy (checked (grid_frozen self.now) (Delete number participant)) stock.old result stock.new }
     {
-        hold(
+        self.send(
             stock,
-            self.settings,
             Instruction::Delete {
                 number,
                 participant,
