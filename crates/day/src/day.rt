@@ -2,7 +2,7 @@
 ghost use Rattle.std.specs.Prelude.{◌≡◌, Some};
 ghost use Rattle.orders.specs.Results.{seen};
 ghost use Rattle.orders.specs.Told.{grid_of};
-ghost use Rattle.engine.specs.PreCalls.{grid_under, Sent};
+ghost use Rattle.engine.specs.PreCalls.{grid_under};
 ghost use Rattle.day_lines.specs.Grammar.{day_line};
 ghost use Rattle.day_lines.specs.declared.stage.Stage.TheVariants as stage;
 ghost use Rattle.day.specs.Days.{state_of, opening, settled, opened_by, closing_answer};
@@ -17,11 +17,8 @@ use day_lines::line::Line;
 use day_lines::reading::read_line;
 use day_lines::stage::Stage;
 use engine::pre_call::PreCall;
-use instructions::effect::Effect;
-use orders::instruction::Instruction;
 use orders::refusal::Refusal;
 use orders::settings::Settings;
-use orders::ticket::Ticket;
 
 // The settings that the first line names.
 fn settings_of(line: &[u8]) -> Result<Settings, Answer>
@@ -33,29 +30,12 @@ fn settings_of(line: &[u8]) -> Result<Settings, Answer>
     }
 }
 
-fn send<S: Store>(
-    pre_call: &PreCall,
-    store: &mut S,
-    instruction: Instruction<Ticket>,
-) -> Result<Effect, Refusal>
-    ensures { Sent (grid_under pre_call.now) instruction (S.Store.room store.old) (S.Book.orders store.old) result (S.Store.room store.new) (S.Book.orders store.new) }
-{
-    match instruction {
-        Instruction::Enter(ticket) => pre_call.enter(store, ticket),
-        Instruction::Change(ticket) => pre_call.change(store, ticket),
-        Instruction::Delete {
-            number,
-            participant,
-        } => pre_call.delete(store, number, participant),
-    }
-}
-
 // Carries out a line in pre-call.
 fn carry_out<S: Store>(pre_call: &PreCall, store: &mut S, line: &[u8]) -> Answer
     ensures { Carried (grid_under pre_call.now) (S.Store.room store.old) (day_line stage.PreCall line.now) (S.Book.orders store.old) result (S.Store.room store.new) (S.Book.orders store.new) }
 {
     match read_line(Stage::PreCall, line) {
-        Ok(Line::Instruction(instruction)) => send(pre_call, store, instruction).into(),
+        Ok(Line::Instruction(instruction)) => pre_call.send(store, instruction).into(),
         Ok(Line::Settings { .. }) => Answer::Refused(Refusal::WrongPhase),
         Err(fault) => fault.into(),
     }

@@ -64,11 +64,8 @@ by_check : (g : Grid) (t : Instruction Ticket) (x : Result (Instruction Terms) R
 by_check g t (Ok i) l after r e h = joined_waits g t i l after r e h
 by_check g t (Err d) l after r e h = refused_waits g t d l after r e h.0 h.1
 
-pub waits_by : (g : Grid) (t u : Instruction Ticket) (l after : WaitingLine (Instruction Order)) (r : Result (Unit {0}) Refusal) (a : Answer) → u ≡ t → a ≡ told_waiting r → HeldBy (checked g t) l r after → Waits g u l a after
-waits_by g t u l after r a e f h =
-    let P : Instruction Ticket → Type 0 = λ x. Waits g x l a after in
-    let Q : Answer → Type 0 = λ x. Waits g t l x after in
-    subst P (sym e) (subst Q (sym f) (by_check g t (checked g t) l after r refl h))
+pub waits_by : (g : Grid) (t : Instruction Ticket) (l after : WaitingLine (Instruction Order)) (r : Result (Unit {0}) Refusal) (a : Answer) → a ≡ told_waiting r → HeldBy (checked g t) l r after → Waits g t l a after
+waits_by g t l after r a e h = subst (λ x. Waits g t l x after) (sym e) (by_check g t (checked g t) l after r refl h)
 
 -- an answer to an instruction tells of nothing triggered, filled or receipted
 pub bare_answer : (a : Answer) (y : Result Effect Refusal) → a ≡ answer_of y → Bare a

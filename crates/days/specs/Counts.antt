@@ -3,30 +3,26 @@ use Rattle.std.specs.Prelude.{ℕ}
 use Rattle.engine.specs.declared.matched.Matched.TheVariants.{Priced, Unpriced}
 use Rattle.days.specs.declared.answer.Answer.{Answer}
 use Rattle.days.specs.declared.answer.Answer.TheVariants.{Done, Held, Frozen, Matched, Lifted, Refused}
+use Rattle.days.specs.declared.counts.Counts.{Counts}
+
+-- nothing triggered, filled or told by receipts
+abbrev pub none : Counts
+none = record { stops = 0; fills = 0; receipts = 0 }
+
+abbrev pub counts_in : Answer → Counts
+counts_in (Done e) = none
+counts_in Held = none
+counts_in Frozen = none
+counts_in (Matched (Priced p n z stops fills receipts)) = record { stops = stops; fills = fills; receipts = receipts }
+counts_in (Matched (Unpriced stops fills receipts)) = record { stops = stops; fills = fills; receipts = receipts }
+counts_in (Lifted n) = record { stops = 0; fills = 0; receipts = n }
+counts_in (Refused e) = none
 
 abbrev pub stops_in : Answer → ℕ
-stops_in (Done e) = 0
-stops_in Held = 0
-stops_in Frozen = 0
-stops_in (Matched (Priced p n z stops fills receipts)) = stops
-stops_in (Matched (Unpriced stops fills receipts)) = stops
-stops_in (Lifted n) = 0
-stops_in (Refused e) = 0
+stops_in a = (counts_in a).stops
 
 abbrev pub fills_in : Answer → ℕ
-fills_in (Done e) = 0
-fills_in Held = 0
-fills_in Frozen = 0
-fills_in (Matched (Priced p n z stops fills receipts)) = fills
-fills_in (Matched (Unpriced stops fills receipts)) = fills
-fills_in (Lifted n) = 0
-fills_in (Refused e) = 0
+fills_in a = (counts_in a).fills
 
 abbrev pub receipts_in : Answer → ℕ
-receipts_in (Done e) = 0
-receipts_in Held = 0
-receipts_in Frozen = 0
-receipts_in (Matched (Priced p n z stops fills receipts)) = receipts
-receipts_in (Matched (Unpriced stops fills receipts)) = receipts
-receipts_in (Lifted n) = n
-receipts_in (Refused e) = 0
+receipts_in a = (counts_in a).receipts

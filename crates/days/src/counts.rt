@@ -1,40 +1,50 @@
 // How many orders were triggered, fills and receipts written, by the answer of a call.
 ghost use Rattle.std.specs.Prelude.{◌≡◌};
-ghost use Rattle.days.specs.Counts.{stops_in, fills_in, receipts_in};
+ghost use Rattle.days.specs.Counts.{counts_in};
 
 use crate::answer::Answer;
 use engine::matched::Matched;
 
+#[derive(Clone, Copy, PartialEq, Eq, Debug)]
+pub struct Counts {
+    pub stops: usize,
+    pub fills: usize,
+    pub receipts: usize,
+}
+
 impl Answer {
-    pub fn stops(self) -> usize
-        ensures { result ≡ stops_in self }
-    {
-        match self {
-            Answer::Matched(Matched::Priced { stops, .. } | Matched::Unpriced { stops, .. }) =>
-                stops,
-            _ => 0,
-        }
-    }
-
-    pub fn fills(self) -> usize
-        ensures { result ≡ fills_in self }
-    {
-        match self {
-            Answer::Matched(Matched::Priced { fills, .. } | Matched::Unpriced { fills, .. }) =>
-                fills,
-            _ => 0,
-        }
-    }
-
-    pub fn receipts(self) -> usize
-        ensures { result ≡ receipts_in self }
+    // The counts that an answer tells, 0 where it tells none.
+    pub fn counts(self) -> Counts
+        ensures { result ≡ counts_in self }
     {
         match self {
             Answer::Matched(
-                Matched::Priced { receipts, .. } | Matched::Unpriced { receipts, .. },
-            ) => receipts,
-            Answer::Lifted { receipts } => receipts,
-            _ => 0,
+                Matched::Priced {
+                    stops,
+                    fills,
+                    receipts,
+                    ..
+                }
+                | Matched::Unpriced {
+                    stops,
+                    fills,
+                    receipts,
+                },
+            ) => Counts {
+                stops,
+                fills,
+                receipts,
+            },
+            Answer::Lifted { receipts } => Counts {
+                stops: 0,
+                fills: 0,
+                receipts,
+            },
+            _ => Counts {
+                stops: 0,
+                fills: 0,
+                receipts: 0,
+            },
         }
     }
 }

@@ -3,7 +3,7 @@
 
 pub mod answer;
 pub mod call;
-mod counts;
+pub mod counts;
 pub mod journal;
 mod match_call;
 pub mod note;

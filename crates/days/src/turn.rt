@@ -13,7 +13,7 @@ ghost use Rattle.locked_stock.specs.Holding.{held_in};
 ghost use Rattle.days.specs.Journals.{entry_with, told_by, has_room};
 ghost use Rattle.days.specs.Phases.{grid_in, state_of, rules_of};
 ghost use Rattle.days.specs.Meets.{call_of, SameFault, MatchTold};
-ghost use Rattle.days.specs.Steps.{StockKept, Turned, Bare, Enough, told_waiting, Waits};
+ghost use Rattle.days.specs.Steps.{StockKept, Turned, Bare, Enough, Waits};
 ghost use Rattle.days.specs.declared.call.Call.TheVariants.{Send, Match, Lift};
 
 use crate::answer::Answer;
@@ -52,54 +52,20 @@ const NO_RECEIPT: Receipt = Receipt {
     }),
 };
 
-// The answer to an instruction that was carried out or refused.
-fn done(answer: Result<Effect, Refusal>) -> Answer
-    ensures { result ≡ answer_of answer }
-{
-    match answer {
-        Ok(effect) => Answer::Done(effect),
-        Err(refusal) => Answer::Refused(refusal),
-    }
-}
-
 // An instruction in pre-call is carried out.
 fn send<S: Store>(pre_call: &PreCall, store: &mut S, instruction: Instruction<Ticket>) -> Answer
     ensures value { result ≡ answer_of (sent_answer (grid_under pre_call.now) (S.Store.room store.old) instruction (S.Book.orders store.old)) }
     ensures after { S.Book.orders store.new ≡ sent_book (grid_under pre_call.now) (S.Store.room store.old) instruction (S.Book.orders store.old) }
     ensures same { S.Store.room store.new ≡ S.Store.room store.old }
 {
-    match instruction {
-        Instruction::Enter(ticket) => done(pre_call.enter(store, ticket)),
-        Instruction::Change(ticket) => done(pre_call.change(store, ticket)),
-        Instruction::Delete {
-            number,
-            participant,
-        } => done(pre_call.delete(store, number, participant)),
-    }
-}
-
-// The answer to an instruction that waits or was refused.
-fn waiting(answer: Result<(), Refusal>) -> Answer
-    ensures { result ≡ told_waiting answer }
-{
-    match answer {
-        Ok(()) => Answer::Held,
-        Err(refusal) => Answer::Refused(refusal),
-    }
+    pre_call.send(store, instruction).into()
 }
 
 // An instruction in a freeze waits, or is refused.
 fn wait(frozen: &Frozen, stock: &mut LockedStock<'_>, instruction: Instruction<Ticket>) -> Answer
     ensures { Waits (grid_frozen frozen.now) instruction stock.old result stock.new }
 {
-    match instruction {
-        Instruction::Enter(ticket) => waiting(frozen.enter(stock, ticket)),
-        Instruction::Change(ticket) => waiting(frozen.change(stock, ticket)),
-        Instruction::Delete {
-            number,
-            participant,
-        } => waiting(frozen.delete(stock, number, participant)),
-    }
+    frozen.send(stock, instruction).into()
 }
 
 // Notes a call with its answer alone.
@@ -152,14 +118,12 @@ fn note_all(
     requires enough { Enough note.answer triggered.now filled.now told.now }
     ensures { told_by journal.new ≡ told_by journal.old ++ entry_with note triggered.now filled.now told.now ∷ [] }
 {
-    let stops = note.answer.stops();
-    let fills = note.answer.fills();
-    let receipts = note.answer.receipts();
+    let counts = note.answer.counts();
     journal.note(
         note,
-        &triggered[0..stops],
-        &filled[0..fills],
-        &told[0..receipts],
+        &triggered[0..counts.stops],
+        &filled[0..counts.fills],
+        &told[0..counts.receipts],
     );
 }
 

@@ -7,7 +7,6 @@ ghost use Rattle.waiting_line.specs.Lines.{room_of};
 ghost use Rattle.locked_stock.specs.Holding.{HeldBy};
 ghost use Rattle.locked_stock.specs.Receipts.{Released};
 ghost use Rattle.pairing.specs.Answers.{fill_fault};
-ghost use Rattle.engine.specs.Freezes.{matched_as};
 ghost use Rattle.engine.specs.Matches.{grid_frozen, without_phase, PhaseKept, MatchHeld};
 ghost use Rattle.engine.specs.PreCalls.{grid_under};
 ghost use Rattle.engine.specs.Steps.{MatchRun};
@@ -15,7 +14,6 @@ ghost use Rattle.engine.specs.Steps.{MatchRun};
 use crate::frozen::Frozen;
 use crate::matched::Matched;
 use crate::pre_call::PreCall;
-use auction::auctioned::Auctioned;
 use auction::hold::hold_auction;
 use book::Store;
 use locked_stock::hold::{LockedStock, hold};
@@ -26,7 +24,6 @@ use orders::refusal::Refusal;
 use orders::settings::Settings;
 use orders::ticket::Ticket;
 use pricing::quote::{MatchingQuote, Quote};
-use pricing::trial::TrialPrice;
 use settling::fill::Fill;
 
 impl PreCall {
@@ -37,33 +34,6 @@ impl PreCall {
         Frozen {
             settings: self.settings,
         }
-    }
-}
-
-// The answer of a match: what the auction found, and how many receipts were written.
-fn matched(auctioned: Auctioned, receipts: usize) -> Matched
-    ensures { result ≡ matched_as auctioned.found auctioned.fills receipts }
-{
-    let fills = auctioned.fills;
-    match auctioned.found {
-        TrialPrice::Priced {
-            price,
-            shares,
-            surplus,
-            stops,
-        } => Matched::Priced {
-            price,
-            shares,
-            surplus,
-            stops,
-            fills,
-            receipts,
-        },
-        TrialPrice::Unpriced { stops } => Matched::Unpriced {
-            stops,
-            fills,
-            receipts,
-        },
     }
 }
 
@@ -80,10 +50,11 @@ fn run_match<S: Store>(
 {
     let auctioned = hold_auction(settings, store, quote, fills)?;
     let count = release(stock, store, receipts)?;
-    Ok(matched(auctioned, count))
+    Ok(Matched::new(auctioned, count))
 }
 
 // A match: its checks, and then the auction with what was held.
+// The auction and the release check their entries too, but once the auction is held nothing may be refused.
 fn hold_match<S: Store>(
     settings: Settings,
     store: &mut S,
@@ -104,19 +75,44 @@ fn hold_match<S: Store>(
     run_match(settings, store, stock, matching, fills, receipts)
 }
 
+// An answer with the phase after it: pre-call where the freeze is ended, and the freeze where that is refused.
+fn ended<T>(
+    settings: Settings,
+    answer: Result<T, Refusal>,
+) -> Result<(PreCall, T), (Frozen, Refusal)>
+    ensures answer { without_phase result ≡ answer }
+    ensures phase { PhaseKept (grid_of settings) result }
+{
+    match answer {
+        Ok(told) => Ok((PreCall { settings }, told)),
+        Err(refusal) => Err((Frozen { settings }, refusal)),
+    }
+}
+
 impl Frozen {
+    // An instruction waits to be carried out.
+    pub fn send(
+        &self,
+        stock: &mut LockedStock<'_>,
+        instruction: Instruction<Ticket>,
+    ) -> Result<(), Refusal>
+        ensures { HeldBy (checked (grid_frozen self.now) instruction) stock.old result stock.new }
+    {
+        hold(stock, self.settings, instruction)
+    }
+
     // An order waits to be entered.
     pub fn enter(&self, stock: &mut LockedStock<'_>, ticket: Ticket) -> Result<(), Refusal>
         ensures { HeldBy (checked (grid_frozen self.now) (Enter ticket)) stock.old result stock.new }
     {
-        hold(stock, self.settings, Instruction::Enter(ticket))
+        self.send(stock, Instruction::Enter(ticket))
     }
 
     // A change waits to be made.
     pub fn change(&self, stock: &mut LockedStock<'_>, ticket: Ticket) -> Result<(), Refusal>
         ensures { HeldBy (checked (grid_frozen self.now) (Change ticket)) stock.old result stock.new }
     {
-        hold(stock, self.settings, Instruction::Change(ticket))
+        self.send(stock, Instruction::Change(ticket))
     }
 
     // A deletion waits to be carried out.
@@ -128,9 +124,8 @@ impl Frozen {
     ) -> Result<(), Refusal>
         ensures { HeldBy (checked (grid_frozen self.now) (Delete number participant)) stock.old result stock.new }
     {
-        hold(
+        self.send(
             stock,
-            self.settings,
             Instruction::Delete {
                 number,
                 participant,
@@ -151,10 +146,8 @@ impl Frozen {
         ensures phase { PhaseKept (grid_frozen self) result }
     {
         let Frozen { settings } = self;
-        match hold_match(settings, store, stock, quote, fills, receipts) {
-            Ok(matched) => Ok((PreCall { settings }, matched)),
-            Err(refusal) => Err((Frozen { settings }, refusal)),
-        }
+        let answer = hold_match(settings, store, stock, quote, fills, receipts);
+        ended(settings, answer)
     }
 
     // Ends the freeze without an auction, and tells how many receipts were written; a refusal hands the freeze back.
@@ -168,9 +161,7 @@ impl Frozen {
         ensures phase { PhaseKept (grid_frozen self) result }
     {
         let Frozen { settings } = self;
-        match release(stock, store, receipts) {
-            Ok(count) => Ok((PreCall { settings }, count)),
-            Err(refusal) => Err((Frozen { settings }, refusal)),
-        }
+        let answer = release(stock, store, receipts);
+        ended(settings, answer)
     }
 }

@@ -1,6 +1,12 @@
 // What a match answers.
+ghost use Rattle.std.specs.Prelude.{◌≡◌};
+ghost use Rattle.engine.specs.Freezes.{matched_as};
+
+use auction::auctioned::Auctioned;
+use pricing::trial::TrialPrice;
 
 // A price with its shares and its surplus, or none; and how many stops were triggered, fills and receipts written.
+// An enum of the two cases, as a trial price is one, and no option with the counts beside it: what a match answers is one or the other.
 #[derive(Clone, Copy, PartialEq, Eq, Debug)]
 pub enum Matched {
     Priced {
@@ -16,4 +22,33 @@ pub enum Matched {
         fills: usize,
         receipts: usize,
     },
+}
+
+impl Matched {
+    // What an auction found, with how many receipts were written after it.
+    pub(crate) fn new(auctioned: Auctioned, receipts: usize) -> Matched
+        ensures { result ≡ matched_as auctioned.found auctioned.fills receipts }
+    {
+        let fills = auctioned.fills;
+        match auctioned.found {
+            TrialPrice::Priced {
+                price,
+                shares,
+                surplus,
+                stops,
+            } => Matched::Priced {
+                price,
+                shares,
+                surplus,
+                stops,
+                fills,
+                receipts,
+            },
+            TrialPrice::Unpriced { stops } => Matched::Unpriced {
+                stops,
+                fills,
+                receipts,
+            },
+        }
+    }
 }

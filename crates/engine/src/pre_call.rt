@@ -25,7 +25,8 @@ impl PreCall {
         PreCall { settings }
     }
 
-    fn send<S: Store>(
+    // Carries out an instruction.
+    pub fn send<S: Store>(
         &self,
         store: &mut S,
         instruction: Instruction<Ticket>,

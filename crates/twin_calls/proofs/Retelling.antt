@@ -1,6 +1,6 @@
 -- The notes of a journal give the calls of the record that it tells.
-use Rattle.std.proofs.Common.{◌≡◌, ℕ, ◌+◌, ◌-◌, ◌<◌, ◌≤◌, min, List, [], ◌∷◌, ◌++◌, map, length, get_or, take, drop, sum_by, sym, refl, ap, ◌∙◌, arith, length-drop}
-use Rattle.std.proofs.lemmas.List.{append_assoc, append-nil, length-take, length-take-le, take_all, take_at, take-append-drop, map_more, at_drop_more, at_drop_all}
+use Rattle.std.proofs.Common.{◌≡◌, ℕ, ◌+◌, ◌<◌, ◌≤◌, List, [], ◌∷◌, ◌++◌, map, length, get_or, take, drop, sum_by, sym, refl, ap, ◌∙◌, arith, length-drop}
+use Rattle.std.proofs.lemmas.List.{append_assoc, append-nil, length-take-le, at_drop_more, at_drop_all}
 use Rattle.std.proofs.lemmas.List.Sums.{sum_by-cons}
 use Rattle.orders.specs.declared.instruction.Instruction.{Instruction}
 use Rattle.orders.specs.declared.terms.Terms.{Terms}
@@ -62,25 +62,6 @@ notes_retold w (n ∷ ns) ts fs rs h =
     let rest = notes_retold w' ns (drop (stops_in n.answer) ts) (drop (fills_in n.answer) fs) (drop (receipts_in n.answer) rs) left in
     calls-++ (retold_entry w (entry_with n ts fs rs) n.answer) _
     ∙ (λ i. calls_retold w (entry_with n ts fs rs) n.answer rs refl few i ++ rest i)
-
--- one instruction more is sent
-pub sent_more : (before now_sent after : List Call) (held : List (Instruction Ticket)) (i : ℕ) (d : Instruction Ticket) → i < length held →
-    now_sent ≡ before ++ map Send (take i held) → after ≡ now_sent ++ Send (get_or held i d) ∷ [] → after ≡ before ++ map Send (take (i + 1) held)
-sent_more before now_sent after held i d h inv e =
-    e ∙ ap (λ l. l ++ Send (get_or held i d) ∷ []) inv ∙ append_assoc before (map Send (take i held)) (Send (get_or held i d) ∷ []) ∙ ap (λ l. before ++ l) (sym (map_more Send held i d h))
-
-pub sent_all : (before after : List Call) (held : List (Instruction Ticket)) (i : ℕ) → length held ≤ i → after ≡ before ++ map Send (take i held) → after ≡ before ++ map Send held
-sent_all before after held i h e = e ∙ ap (λ l. before ++ map Send l) (take_all i held h)
-
-take_min : {X : Type 0} (k m : ℕ) (xs : List X) → m ≡ min k (length xs) → take m xs ≡ take k xs
-take_min k m xs e = ap (take m) (sym (take-append-drop k xs)) ∙ take_at (take k xs) (drop k xs) m (length-take k xs ∙ sym e)
-
--- the call that ends a freeze, and what is sent after it
-pub ended : (before pushed after : List Call) (c : Call) (held : List (Instruction Ticket)) (k m : ℕ) → m ≡ min k (length held) →
-    pushed ≡ before ++ c ∷ [] → after ≡ pushed ++ map Send (take (m - 0) held) → after ≡ before ++ c ∷ map Send (take k held)
-ended before pushed after c held k m e p q =
-    let same : m - 0 ≡ m = omega arith in
-    q ∙ ap (λ l. l ++ map Send (take (m - 0) held)) p ∙ append_assoc before (c ∷ []) (map Send (take (m - 0) held)) ∙ ap (λ l. before ++ c ∷ map Send l) (take_min k (m - 0) held (same ∙ e))
 
 -- one note more is retold
 pub retold_more : (notes : List Note) (i : ℕ) (d : Note) (w w' : Where) (before after all : List Call) → i < length notes →

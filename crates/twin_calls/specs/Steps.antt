@@ -1,5 +1,6 @@
 -- The twin's calls, note by note.
-use Rattle.std.specs.Prelude.{◌≡◌, Bool, true, false, List, [], ◌∷◌, ◌++◌, map, take}
+use Rattle.std.specs.Prelude.{◌≡◌, List, [], ◌∷◌, ◌++◌, map, take, Some, None, Option, Vec}
+use Rattle.std.specs.declared.alloc.Global.{Global}
 use Rattle.orders.specs.declared.instruction.Instruction.{Instruction}
 use Rattle.orders.specs.declared.ticket.Ticket.{Ticket}
 use Rattle.days.specs.Counts.{receipts_in}
@@ -10,10 +11,10 @@ use Rattle.days.specs.declared.call.Call.{Call}
 use Rattle.days.specs.declared.call.Call.TheVariants.{Send, Freeze, Match, Lift}
 use Rattle.days.specs.declared.note.Note.{Note}
 
--- where a day is: in a freeze or not, with what is held
-abbrev pub where_of : Bool → List (Instruction Ticket) → Where
-where_of true held = inside held
-where_of false held = outside
+-- where a day is: in a freeze with what it holds, or in none
+abbrev pub where_of : Option (Vec (Instruction Ticket) Global) → Where
+where_of None = outside
+where_of (Some held) = inside held.items
 
 -- a call of a freeze, if it is no instruction
 abbrev pub kept : Call → List Call

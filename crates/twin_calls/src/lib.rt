@@ -2,7 +2,7 @@
 #![tactic(auto)]
 
 ghost use Rattle.std.specs.Prelude.{◌≡◌, true, false, [], ◌∷◌, ◌++◌, map, take, IfOk, OnOk};
-ghost use Rattle.days.specs.Delayed.{outside, retold, sent_by};
+ghost use Rattle.days.specs.Delayed.{outside, retold};
 ghost use Rattle.days.specs.Delayed as delayed;
 ghost use Rattle.days.specs.Journals.{told_by};
 ghost use Rattle.days.specs.Sealed.{calls};
@@ -28,26 +28,6 @@ fn keep(twin: &mut Vec<Call>, call: Call) -> Result<(), AllocError>
     Ok(())
 }
 
-// An instruction that is held comes behind those that are.
-fn hold(held: &mut Vec<Instruction<Ticket>>, call: Call) -> Result<(), AllocError>
-    ensures { OnOk result (held.new.items ≡ held.old.items ++ sent_by call) }
-{
-    if let Call::Send(instruction) = call {
-        held.push(instruction)?;
-    }
-    Ok(())
-}
-
-// Sends instructions one after the other.
-fn send_all(twin: &mut Vec<Call>, held: &[Instruction<Ticket>]) -> Result<(), AllocError>
-    ensures { OnOk result (twin.new.items ≡ twin.old.items ++ map Send held.now) }
-{
-    for instruction in held {
-        twin.push(Call::Send(*instruction))?;
-    }
-    Ok(())
-}
-
 // The call that ends a freeze, and then as many of the held instructions as it has receipts.
 fn end(
     twin: &mut Vec<Call>,
@@ -58,63 +38,64 @@ fn end(
     ensures { OnOk result (twin.new.items ≡ twin.old.items ++ call ∷ map Send (take receipts held.now)) }
 {
     twin.push(call)?;
-    let told = receipts.min(held.len());
-    send_all(twin, &held[0..told])?;
+    let told = held.iter().take(receipts);
+    twin.extend(told.map(|instruction| Call::Send(*instruction)))?;
     Ok(())
 }
 
-// A note in a freeze; is the day in it still?
+// A note in a freeze; what is held after it, or none where it ends the freeze.
 fn in_freeze(
     twin: &mut Vec<Call>,
-    held: &mut Vec<Instruction<Ticket>>,
+    held: Vec<Instruction<Ticket>>,
     note: Note,
-) -> Result<bool, AllocError>
-    ensures { IfOk result (λ frozen. Noted (delayed.inside held.old.items) note twin.old.items twin.new.items (where_of frozen held.new.items)) }
+) -> Result<Option<Vec<Instruction<Ticket>>>, AllocError>
+    ensures { IfOk result (λ now. Noted (delayed.inside held.items) note twin.old.items twin.new.items (where_of now)) }
 {
+    let mut held = held;
     match note.answer {
         Answer::Held => {
-            hold(held, note.call)?;
-            Ok(true)
+            if let Call::Send(instruction) = note.call {
+                held.push(instruction)?;
+            }
+            Ok(Some(held))
         }
         Answer::Matched(_) | Answer::Lifted { .. } => {
-            end(twin, held.as_slice(), note.call, note.answer.receipts())?;
-            Ok(false)
+            end(twin, held.as_slice(), note.call, note.answer.counts().receipts)?;
+            Ok(None)
         }
         Answer::Done(_) | Answer::Frozen | Answer::Refused(_) => {
             keep(twin, note.call)?;
-            Ok(true)
+            Ok(Some(held))
         }
     }
 }
 
-// A note outside a freeze; is the day in one now?
+// A note outside a freeze; what is held after it, where it begins one.
 fn in_pre_call(
+    heap: Global,
     twin: &mut Vec<Call>,
-    held: &mut Vec<Instruction<Ticket>>,
     note: Note,
-) -> Result<bool, AllocError>
-    ensures { IfOk result (λ frozen. Noted outside note twin.old.items twin.new.items (where_of frozen held.new.items)) }
+) -> Result<Option<Vec<Instruction<Ticket>>>, AllocError>
+    ensures { IfOk result (λ now. Noted outside note twin.old.items twin.new.items (where_of now)) }
 {
     twin.push(note.call)?;
-    held.clear();
     match note.answer {
-        Answer::Frozen => Ok(true),
-        _ => Ok(false),
+        Answer::Frozen => Ok(Some(Vec::new(heap))),
+        _ => Ok(None),
     }
 }
 
 fn retell(
-    frozen: bool,
+    heap: Global,
     twin: &mut Vec<Call>,
-    held: &mut Vec<Instruction<Ticket>>,
+    held: Option<Vec<Instruction<Ticket>>>,
     note: Note,
-) -> Result<bool, AllocError>
-    ensures { IfOk result (λ b. Noted (where_of frozen held.old.items) note twin.old.items twin.new.items (where_of b held.new.items)) }
+) -> Result<Option<Vec<Instruction<Ticket>>>, AllocError>
+    ensures { IfOk result (λ now. Noted (where_of held) note twin.old.items twin.new.items (where_of now)) }
 {
-    if frozen {
-        in_freeze(twin, held, note)
-    } else {
-        in_pre_call(twin, held, note)
+    match held {
+        Some(held) => in_freeze(twin, held, note),
+        None => in_pre_call(heap, twin, note),
     }
 }
 
@@ -123,11 +104,9 @@ pub fn twin_calls(heap: Global, journal: &Journal) -> Result<Vec<Call>, AllocErr
     ensures { IfOk result (λ v. v.items ≡ calls (retold outside (told_by journal.now))) }
 {
     let mut twin = Vec::new(heap);
-    let mut held = Vec::new(heap);
-    let mut frozen = false;
-    let notes = journal.notes();
-    for note in notes {
-        frozen = retell(frozen, &mut twin, &mut held, *note)?;
+    let mut held = None;
+    for note in journal.notes() {
+        held = retell(heap, &mut twin, held, *note)?;
     }
     Ok(twin)
 }
