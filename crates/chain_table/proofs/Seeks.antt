@@ -1,5 +1,5 @@
 -- What a search along rows says of the terms in them.
-use Rattle.std.proofs.Common.{◌≡◌, ℕ, zero, suc, slice_get, false, eqb, ◌==◌, find, List, [], ◌∷◌, ◌++◌, map, is_some, option_map, Option, Some, None, refl, ap, ◌∙◌, subst, ⊎_elim, arith}
+use Rattle.std.proofs.Common.{◌≡◌, ℕ, zero, suc, slice_get, false, eqb, ◌==◌, find, List, [], ◌∷◌, ◌++◌, map, is_some, option_map, Option, Some, None, refl, ap, ◌∙◌, subst, ⊎_elim}
 use Rattle.std.proofs.lemmas.Bool.{cases_Bool, eqb-true}
 use Rattle.orders.specs.Ranges.{with_quantity}
 use Rattle.orders.specs.declared.terms.Terms.{Terms}
@@ -19,7 +19,7 @@ pub record Seen (n : ℕ) (c : ℕ → Terms) (i : ℕ) (zs : List ℕ) : Type 0
   pub lowers : (q : ℕ) (c' : ℕ → Terms) → ((j : ℕ) → (j ≡ i → ⊥) → c' j ≡ c j) → c' i ≡ with_quantity (c i) q → among i (front ++ back) ≡ false → map c' zs ≡ lowered n q (map c zs)
 
 pub seen : (n : ℕ) (c : ℕ → Terms) (zs : List ℕ) (i : ℕ) → Some i ≡ find (λ j. (c j).number == n) zs → Seen n c i zs
-seen n c [] i h = let z : ◌≡◌ {A = ℕ} 0 1 = cc in absurd (omega arith)
+seen n c [] i h = cc
 seen n c (z ∷ zs) i h =
     ⊎_elim
     (λ e.
@@ -51,7 +51,7 @@ seen n c (z ∷ zs) i h =
 pub unseen : (n : ℕ) (c : ℕ → Terms) (zs : List ℕ) → None ≡ find (λ j. (c j).number == n) zs → found n (map c zs) ≡ None
 unseen n c [] h = refl
 unseen n c (z ∷ zs) h =
-    ⊎_elim (λ e. let k = rw e at h in let y : ◌≡◌ {A = ℕ} 0 1 = cc in absurd (omega arith)) (λ e. rw e (unseen n c zs (rw e at h))) (cases_Bool (eqb (c z).number n))
+    ⊎_elim (λ e. let k = rw e at h in cc) (λ e. rw e (unseen n c zs (rw e at h))) (cases_Bool (eqb (c z).number n))
 
 pub held_sought : (n : ℕ) (c : ℕ → Terms) (zs : List ℕ) → held n (map c zs) ≡ is_some (find (λ j. (c j).number == n) zs)
 held_sought n c [] = refl

@@ -1,5 +1,5 @@
 -- The number that tells a row or the end.
-use Rattle.std.proofs.Common.{◌≡◌, ℕ, suc, ◌<◌, ◌≢◌, min, Option, Some, None, IsSome, refl, sym, ap, ◌∙◌, subst, ⊎_elim, arith}
+use Rattle.std.proofs.Common.{◌≡◌, ℕ, suc, ◌<◌, ◌≢◌, min, Option, Some, sym, ap, ◌∙◌, subst, ⊎_elim, arith}
 use Rattle.std.proofs.lemmas.Bool.{cases_lt, lt-ltb, le-ltb}
 use Rattle.chain_table.specs.Chains.{spot}
 
@@ -15,10 +15,6 @@ off_end i e = ⊎_elim (λ h. omega (arith, spot_row i h)) (λ h. omega (arith, 
 
 pub row_of_spot : (i : ℕ) → spot (Some i) < 256 → spot (Some i) ≡ i
 row_of_spot i k = ⊎_elim (λ h. spot_row i h) (λ h. absurd (omega (arith, far_row i (omega arith)))) (cases_lt i 256)
-
-pub is_row : (o : Option ℕ) → spot o < 256 → IsSome o
-is_row None k = absurd (omega arith)
-is_row (Some i) k = refl
 
 pub row_is : (o : Option ℕ) (i : ℕ) → o ≡ Some i → spot o < 256 → spot o ≡ i
 row_is o i e k = ap spot e ∙ row_of_spot i (subst (λ x. spot x < 256) e k)

@@ -1,5 +1,5 @@
 -- The rows of a table: along its chain, the row of a number, the first free row, and what comes of the table when one of them changes.
-use Rattle.std.proofs.Common.{◌≡◌, ℕ, suc, ◌+◌, ◌-◌, ◌<◌, ◌≤◌, ◌==◌, ◌≢◌, true, false, Option, List, [], ◌∷◌, ◌++◌, map, get_or, Some, None, IsSome, vec_items, vec_len, sym, ap, ◌∙◌, subst, ⊎_elim, arith}
+use Rattle.std.proofs.Common.{◌≡◌, ℕ, suc, ◌+◌, ◌-◌, ◌<◌, ◌≤◌, ◌==◌, ◌≢◌, true, false, Option, List, [], ◌∷◌, ◌++◌, map, get_or, Some, None, vec_items, vec_len, sym, ap, ◌∙◌, subst, ⊎_elim, arith}
 use Rattle.std.proofs.lemmas.List.{nil_from_length}
 use Rattle.std.proofs.lemmas.Bool.{eqb-true, or_cases}
 use Rattle.orders.specs.Ranges.{with_quantity}
@@ -16,7 +16,7 @@ use Rattle.chain_table.specs.declared.table.ChainTable.{ChainTable}
 use Rattle.chain_table.proofs.Indices.{past_off, once_front, once_out, all_parts}
 use Rattle.chain_table.proofs.Intact.{Intact, Holding, opened, below, on_spot}
 use Rattle.chain_table.proofs.Moves.{row_made, before_spot, after_spot, leave, grow, enter, rewrite}
-use Rattle.chain_table.proofs.Spots.{spot_row, told_row, is_row, row_is}
+use Rattle.chain_table.proofs.Spots.{spot_row, told_row, row_is}
 use Rattle.chain_table.proofs.Rests.{none_from, step_from}
 use Rattle.chain_table.proofs.Seeks.{Seen, seen, unseen}
 use Rattle.chain_table.proofs.Writes.{row_links, row_told}
@@ -131,14 +131,11 @@ module _ (t : ChainTable) (h : t.count < vec_len t.chain.rows) where
   free_made : spot t.free < vec_len t.chain.rows
   free_made = (all_parts (λ i. i < vec_len t.chain.rows) (path_of t) (spot t.free ∷ rest) first_free.present).1.0
 
-  pub free_is : IsSome t.free
-  free_is = is_row t.free (omega (arith, free_made, t.within, t.most))
-
   module _ {at : ℕ} (f : t.free ≡ Some at) where
     free_row : spot t.free ≡ at
     free_row = row_is t.free at f (omega (arith, free_made, t.within, t.most))
 
-    pub free_at : at < vec_len t.chain.rows
+    free_at : at < vec_len t.chain.rows
     free_at = omega (arith, free_made, free_row)
 
     -- it comes to the end of the chain

@@ -1,7 +1,7 @@
 -- What is read of the rows, and what a write of one leaves of the others.
-use Rattle.std.proofs.Common.{◌≡◌, ℕ, ◌<◌, Option, List, [], ◌∷◌, ◌++◌, map, length, get_or, set, vec_items, vec_len, sym, ap, ◌∙◌, ⊎_elim, arith}
-use Rattle.std.proofs.lemmas.List.{map-set, get_or-map, set-get_or, get_or-set_same, get_or-set_other, length-map, map_push, get_or_append_left, get_or_past, length_push}
-use Rattle.std.proofs.lemmas.Bool.{cases_eq, cases_lt, ne_eqb}
+use Rattle.std.proofs.Common.{◌≡◌, ℕ, ◌<◌, Option, List, map, length, get_or, set, vec_items, vec_len, sym, ap, ◌∙◌, ⊎_elim, arith}
+use Rattle.std.proofs.lemmas.List.{map-set, get_or-map, set-get_or, get_or-set_same, get_or-set_other, length-map}
+use Rattle.std.proofs.lemmas.Bool.{cases_eq, ne_eqb}
 use Rattle.chain_table.specs.Chains.{spot, links_of, told_by, links_at, next, prev, terms_at, no_links, no_terms}
 use Rattle.chain_table.specs.declared.chain.Chain.{Chain}
 use Rattle.chain_table.specs.Steps.{Relinked, Joined}
@@ -28,16 +28,6 @@ new_field f xs i w d h =
 
 pub off_field : {Y : Type 0} (f : Row → Y) (xs : List Row) (i j : ℕ) (w : Row) (d : Y) → (j ≡ i → ⊥) → get_or (map f (set xs i w)) j d ≡ get_or (map f xs) j d
 off_field f xs i j w d h = ap (λ l. get_or l j d) (map-set f xs i w) ∙ get_or-set_other (map f xs) i j (f w) d h
-
--- a field of the rows after a row more: in the rows before it
-pub old_field : {Y : Type 0} (f : Row → Y) (xs ys : List Row) (w : Row) (d : Y) (i : ℕ) → ys ≡ xs ++ w ∷ [] → (i ≡ length xs → ⊥) → get_or (map f ys) i d ≡ get_or (map f xs) i d
-old_field f xs ys w d i e n =
-    let l = length-map xs f in
-    let m = length_push (map f xs) (f w) in
-    ap (λ l. get_or (map f l) i d) e
-    ∙ ap (λ l. get_or l i d) (map_push f xs w)
-    ∙ ⊎_elim (λ h. get_or_append_left (map f xs) (f w ∷ []) d i (omega arith))
-    (λ h. get_or_past (map f xs ++ f w ∷ []) i d (omega arith) ∙ sym (get_or_past (map f xs) i d (omega arith))) (cases_lt i (length xs))
 
 -- b comes to follow a when first the links of a are written, and then those of b
 pub joined : {c c1 d : Chain} {a b : Option ℕ} {la lb : Links} → la ≡ links_at c (spot a) → Relinked c c1 (spot a) (record { before = la.before; after = b })

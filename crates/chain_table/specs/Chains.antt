@@ -9,7 +9,7 @@ use Rattle.chain_table.specs.declared.chain.Chain.{Chain}
 use Rattle.chain_table.specs.declared.chain.Links.{Links}
 use Rattle.chain_table.specs.declared.chain.Row.{Row}
 
--- the end is told by 256, and a row by its index; what comes after 256 is no row
+-- the end is told by 256 and a row by its index, which is below 256; a larger one, which is no row, by one more
 abbrev pub spot : Option ℕ → ℕ
 spot None = 256
 spot (Some i) = cond (nat_lt i 256) i (suc i)

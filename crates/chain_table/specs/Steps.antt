@@ -23,6 +23,10 @@ number_in t i = (terms_at t.chain i).number
 abbrev pub row_holding : ℕ → ChainTable → Option ℕ
 row_holding n t = find (λ i. (terms_at t.chain i).number == n) (path_of t)
 
+-- that row is `at`
+pub record Holds (t : ChainTable) (number at : ℕ) : Type 0 where
+  pub is : Some at ≡ row_holding number t
+
 -- a row that was read, with the terms in it
 abbrev pub row_and_terms : ℕ × Order → ℕ × Terms
 row_and_terms p = (p.0, terms_of p.1)
@@ -39,10 +43,6 @@ rows_along t = map (told_in t.chain) (path_of t)
 abbrev pub rest_from : ℕ → List ℕ → List ℕ
 rest_from i [] = []
 rest_from i (x ∷ xs) = cond (x == i) (x ∷ xs) (rest_from i xs)
-
--- that row is `at`
-pub record Holds (t : ChainTable) (number at : ℕ) : Type 0 where
-  pub is : Some at ≡ row_holding number t
 
 -- a row or the end
 abbrev pub Spot : Chain → ℕ → Type 0

@@ -1,5 +1,5 @@
 -- What the place of a number says of the list, and what the row there says of it.
-use Rattle.std.proofs.Common.{◌≡◌, ℕ, suc, ◌+◌, ◌<◌, ◌≤◌, Bool, true, false, cond, List, [], ◌∷◌, map, length, get_or, take, drop, set, remove, position, Some, None, is_some, option_map, ◌==◌, nat_lt, slice_get, slice_index_or, slice_set, ⊎_elim, refl, sym, ap, ◌∙◌, arith}
+use Rattle.std.proofs.Common.{◌≡◌, ℕ, suc, ◌+◌, ◌<◌, ◌≤◌, Bool, true, false, cond, List, [], ◌∷◌, map, length, get_or, take, drop, set, remove, position, Some, None, is_some, option_map, ◌==◌, nat_lt, slice_get, slice_index_or, slice_set, Vec, vec_items, vec_len, ⊎_elim, refl, sym, ap, ◌∙◌, arith}
 use Rattle.std.proofs.Math.Numerals.{one-add}
 use Rattle.std.proofs.lemmas.List.{take-map, drop-map, map-append, length-map, get_or-map, map-set}
 use Rattle.std.proofs.lemmas.List.Folds.{find_at}
@@ -7,6 +7,7 @@ use Rattle.std.proofs.lemmas.Option.{slice_get-map, slice_get-get_or, slice_get_
 use Rattle.std.proofs.lemmas.Bool.{ltb-true, ltb-false, lt-ltb, cases_Bool}
 use Rattle.std.proofs.lemmas.Bool.Decides.{nat_tests}
 use Rattle.std.specs.List.{position_or_len}
+use Rattle.std.specs.declared.alloc.Global.{Global}
 use Rattle.orders.specs.Ranges.{with_quantity}
 use Rattle.orders.specs.Told.{terms_of}
 use Rattle.orders.specs.declared.order.Order.{Order}
@@ -60,6 +61,9 @@ first_told n (o ∷ os) = ⊎_elim (λ e. rw e) (λ e. rw e (ap (λ k. 1 + k) (f
 
 pub place_told : (n : ℕ) (os : List Order) → position (λ o. (terms_of o).number == n) os ≡ place_of n (map terms_of os)
 place_told n os = rw (first_told n os, length-map os terms_of)
+
+pub rows_length : (v : Vec Order Global) → vec_len v ≡ length (map terms_of (vec_items v))
+rows_length v = v.ok.0 ∙ sym (length-map (vec_items v) terms_of)
 
 map_removed : {X Y : Type 0} (f : X → Y) (xs : List X) (i : ℕ) → map f (remove xs i) ≡ remove (map f xs) i
 map_removed f xs i = map-append f (take i xs) (drop (suc i) xs) ∙ simp (take-map f, drop-map f)

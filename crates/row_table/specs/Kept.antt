@@ -1,9 +1,8 @@
 -- What the calls of a table of rows keep.
-use Rattle.std.specs.Prelude.{◌≡◌, ℕ, ◌≤◌, true, List, map, length, vec_items, vec_len, Vec, refl}
-use Rattle.std.proofs.Common.{sym, ◌∙◌, arith}
+use Rattle.std.specs.Prelude.{◌≡◌, ℕ, ◌≤◌, true, List, map, length, vec_items, refl}
+use Rattle.std.proofs.Common.{arith}
 use Rattle.std.proofs.ByRecursion.{All-map}
 use Rattle.std.proofs.lemmas.List.{length-map}
-use Rattle.std.specs.declared.alloc.Global.{Global}
 use Rattle.orders.specs.Ranges.{in_range}
 use Rattle.orders.specs.Told.{terms_of}
 use Rattle.orders.specs.declared.order.Order.{Order}
@@ -12,9 +11,6 @@ use Rattle.book.specs.Calls.{Kept}
 use Rattle.book.specs.Lists.{distinct}
 use Rattle.row_table.specs.Rows.{rows_of}
 use Rattle.row_table.specs.declared.table.RowTable.{RowTable}
-
-pub rows_length : (v : Vec Order Global) → vec_len v ≡ length (map terms_of (vec_items v))
-rows_length v = v.ok.0 ∙ sym (length-map (vec_items v) terms_of)
 
 pub rows_kept : (os : List Order) (room : ℕ) → room ≤ 256 → length os ≤ room → distinct (map terms_of os) ≡ true → Kept room room (map terms_of os)
 rows_kept os room most within apart =

@@ -31,13 +31,9 @@ returns-then-self c =
     let full : eqb (length (rows_of t)) t.capacity ≡ true = eq-eqb _ _ (omega (arith, rows_length t)) in
     record { value = rw (h, full); after = rw (h, full); kept = table_kept t }
 
-pub ensure_free_row-requires : goal.ensure_free_row-requires
-ensure_free_row-requires c = let t = c.args.self.now in omega (arith, t.counted, t.within)
-
-pub use_free_row-requires : goal.use_free_row-requires
-use_free_row-requires c =
-    let h = told (goal.at.use_free_row-requires c).After-is_some ∙ c.if-is_some.false in
-    record { apart = ap (held (terms_of c.args.order).number) c.ensure_free_row.ensures.list ∙ h; spare = c.ensure_free_row.ensures.spare }
+pub use_free_row-requires-clause-apart : goal.use_free_row-requires-clause-apart
+use_free_row-requires-clause-apart c =
+    ap (held (terms_of c.args.order).number) c.ensure_free_row.ensures.list ∙ told (goal.at.use_free_row-requires-clause-apart c).After-is_some ∙ c.if-is_some.false
 
 pub returns : goal.returns
 returns c =

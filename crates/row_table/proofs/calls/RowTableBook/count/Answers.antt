@@ -1,5 +1,6 @@
 use Rattle.std.proofs.Common.{arith}
-use Rattle.row_table.specs.Kept.{rows_length, table_kept}
+use Rattle.row_table.specs.Kept.{table_kept}
+use Rattle.row_table.proofs.Places.{rows_length}
 use Rattle.row_table.proofs.calls.RowTableBook.count.Goals as goal
 
 pub returns : goal.returns

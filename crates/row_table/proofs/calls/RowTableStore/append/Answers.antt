@@ -5,8 +5,8 @@ use Rattle.orders.specs.Told.{terms_of}
 use Rattle.book.proofs.Laws.{distinct_push}
 use Rattle.book.specs.Lists.{held, distinct}
 use Rattle.row_table.specs.Rows.{rows_of, place_of}
-use Rattle.row_table.specs.Kept.{rows_length, rows_kept, table_kept}
-use Rattle.row_table.proofs.Places.{held_if}
+use Rattle.row_table.specs.Kept.{rows_kept, table_kept}
+use Rattle.row_table.proofs.Places.{held_if, rows_length}
 use Rattle.row_table.proofs.calls.RowTableStore.append.Goals as goal
 use Rattle.row_table.proofs.calls.RowTableStore.append.Goals.{After-is_some, After-push_reserved}
 
@@ -35,14 +35,11 @@ pushed c = ap (map terms_of) c.push_reserved.ensures.items ∙ map_push terms_of
 apart : (c : After-push_reserved) → distinct (map terms_of (vec_items c.push_reserved.new.self)) ≡ true
 apart c =
     let t = c.args.self.now in
-    let h = told (goal.at.invariant_of-self c).After-is_some ∙ c.if-is_some.false in
+    let h = told (goal.at.invariant_of-self-clause-apart c).After-is_some ∙ c.if-is_some.false in
     ap distinct (pushed c) ∙ distinct_push (rows_of t) (terms_of c.args.order) t.apart h
 
-pub invariant_of-self : goal.invariant_of-self
-invariant_of-self c =
-    let t = c.args.self.now in
-    let long = rows_length t.rows in
-    record { most = t.most; within = omega arith; reserved = omega arith; apart = apart c }
+pub invariant_of-self-clause-apart : goal.invariant_of-self-clause-apart
+invariant_of-self-clause-apart c = apart (goal.at.invariant_of-self-clause-apart c).After-push_reserved
 
 pub returns : goal.returns
 returns c =

@@ -31,10 +31,9 @@ apart i p e =
     let t = i.args.self.now in
     ap distinct (written i p e) ∙ distinct_lowered i.args.number i.args.quantity (rows_of t) ∙ t.apart
 
-pub invariant_of-self : goal.invariant_of-self
-invariant_of-self c =
-    let t = c.args.self.now in
-    record { most = t.most; within = t.within; reserved = t.reserved; apart = apart (goal.at.invariant_of-self c).After-index c.in-Some-lowered.order (given _ _ _ c.in-Some-lowered.ensures).1 }
+pub invariant_of-self-clause-apart : goal.invariant_of-self-clause-apart
+invariant_of-self-clause-apart c =
+    apart (goal.at.invariant_of-self-clause-apart c).After-index c.in-Some-lowered.order (given _ _ _ c.in-Some-lowered.ensures).1
 
 pub returns : goal.returns
 returns c =

@@ -25,9 +25,8 @@ apart c =
     let t = c.args.self.now in
     ap distinct (left c) ∙ distinct_without c.args.number (rows_of t) t.apart
 
-pub invariant_of-self : goal.invariant_of-self
-invariant_of-self c =
-    record { most = c.args.self.now.most; within = omega arith; reserved = omega arith; apart = apart (goal.at.invariant_of-self c).After-remove }
+pub invariant_of-self-clause-apart : goal.invariant_of-self-clause-apart
+invariant_of-self-clause-apart c = apart (goal.at.invariant_of-self-clause-apart c).After-remove
 
 pub returns : goal.returns
 returns c =
