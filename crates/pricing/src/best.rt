@@ -70,6 +70,7 @@ impl Best {
     }
 
     // The price that the best levels give.
+    #[tactic(auto, using(orders::proofs::Stepping::tick_some))]
     pub(crate) fn price(self, settings: Settings) -> u32
         requires { (self.lowest ≤ 1000000000) × (self.highest ≤ 1000000000) }
         ensures { result ≡ chosen_price (grid_of settings).tick self }

@@ -78,6 +78,7 @@ impl Crossing {
     }
 
     // All that a side would trade at a price.
+    #[tactic(auto, using(crate::proofs::Bounding::volume_most))]
     pub(crate) fn depth_at(&self, side: Side, price: u32) -> u32
         ensures { result ≡ depth_at self.now.quote.quote self.now.orders.items side price }
     {
