@@ -27,10 +27,9 @@ impl Best {
     fn lone(price: u32, demand: u32, supply: u32) -> Best
         ensures { result ≡ lone_best price demand supply }
     {
-        let shares = demand.min(supply);
         Best {
-            shares,
-            difference: demand.max(supply) - shares,
+            shares: demand.min(supply),
+            difference: demand.abs_diff(supply),
             lowest: price,
             highest: price,
             lean: demand.cmp(&supply),

@@ -52,16 +52,9 @@ impl MatchingQuote {
         ensures bound { result ≤ 1000000 }
     {
         match side {
-            Side::Buy => if price == self.quote.bid {
-                self.quote.bid_volume
-            } else {
-                0
-            },
-            Side::Sell => if price == self.quote.ask {
-                self.quote.ask_volume
-            } else {
-                0
-            },
+            Side::Buy if price == self.quote.bid => self.quote.bid_volume,
+            Side::Sell if price == self.quote.ask => self.quote.ask_volume,
+            _ => 0,
         }
     }
 }
