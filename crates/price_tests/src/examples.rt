@@ -1,11 +1,10 @@
 // The worked examples, and the mistakes that the rules shut out.
-use crate::reckoning::Reckoned;
 use crate::setting::{book_of, terms, trial};
 use orders::refusal::Refusal;
 use orders::settings::Settings;
 use orders::terms::{Kind, Side, Terms};
 use pricing::quote::Quote;
-use pricing::trial::trial_price;
+use pricing::trial::{TrialPrice, trial_price};
 use std::test::Fail;
 
 pub(crate) fn quote(bid_volume: u32, ask_volume: u32) -> Quote {
@@ -25,21 +24,12 @@ pub(crate) fn sell(number: u32, quantity: u32, limit: u32) -> Terms {
     terms(number, Side::Sell, Kind::Limit { limit }, quantity)
 }
 
-fn priced(price: u32, shares: u64, surplus: i64) -> Reckoned {
-    Reckoned {
-        price: Some(price),
+fn priced(price: u32, shares: u32, surplus: i64) -> TrialPrice {
+    TrialPrice::Priced {
+        price,
         shares,
         surplus,
         stops: 0,
-    }
-}
-
-fn unpriced(stops: usize) -> Reckoned {
-    Reckoned {
-        price: None,
-        shares: 0,
-        surplus: 0,
-        stops,
     }
 }
 
@@ -89,7 +79,7 @@ fn limits_cross(rt: HostRuntime) -> Result<(), Fail> {
             quote(0, 0),
             &[buy(1, 5, 1_040), sell(2, 5, 1_035)],
         )?,
-        unpriced(0)
+        TrialPrice::Unpriced { stops: 0 }
     );
     Ok(())
 }
@@ -103,7 +93,7 @@ fn quote_volumes_trade(rt: HostRuntime) -> Result<(), Fail> {
     );
     assert_eq!(rt;
         trial(rt.alloc(), 0, quote(0, 0), &market_buy)?,
-        unpriced(0)
+        TrialPrice::Unpriced { stops: 0 }
     );
     let market_sell = [terms(1, Side::Sell, Kind::Market, 10), buy(2, 5, 980)];
     assert_eq!(rt;
@@ -119,7 +109,10 @@ fn stops_at_the_bid(rt: HostRuntime) -> Result<(), Fail> {
         terms(1, Side::Sell, Kind::StopMarket { stop: 990 }, 5),
         terms(2, Side::Sell, Kind::StopMarket { stop: 989 }, 5),
     ];
-    assert_eq!(rt; trial(rt.alloc(), 0, quote(0, 0), &stops)?, unpriced(1));
+    assert_eq!(rt;
+        trial(rt.alloc(), 0, quote(0, 0), &stops)?,
+        TrialPrice::Unpriced { stops: 1 }
+    );
     Ok(())
 }
 
@@ -154,9 +147,11 @@ fn stops_trigger_by_the_quote_and_not_by_the_price(rt: HostRuntime) -> Result<()
         ),
         terms(4, Side::Buy, Kind::StopMarket { stop: 1_031 }, 5),
     ];
-    let expected = Reckoned {
+    let expected = TrialPrice::Priced {
+        price: 1_000,
+        shares: 60,
+        surplus: -40,
         stops: 1,
-        ..priced(1_000, 60, -40)
     };
     assert_eq!(rt; trial(rt.alloc(), 0, quote(0, 0), &orders)?, expected);
     Ok(())
@@ -168,7 +163,7 @@ fn volumes_do_not_trigger(rt: HostRuntime) -> Result<(), Fail> {
     for volume in [0, 1, 1_000_000] {
         assert_eq!(rt;
             trial(rt.alloc(), 0, quote(volume, volume), &stop)?,
-            unpriced(0)
+            TrialPrice::Unpriced { stops: 0 }
         );
     }
     Ok(())

@@ -1,11 +1,12 @@
 // Random small books beside the naive reckonings.
 use crate::fills::check_fills;
-use crate::reckoning::{most_shares, reckon};
+use crate::reckoning::Reckoning;
 use crate::setting::{terms, trial};
 use crate::share_by_share::share_by_share;
 use orders::settings::Settings;
 use orders::terms::{Kind, Side, Terms};
 use pricing::quote::Quote;
+use pricing::trial::TrialPrice;
 use std::alloc::Global;
 use std::process::Abort;
 use std::test::Fail;
@@ -75,8 +76,16 @@ fn one_price(rt: &impl Abort, heap: Global, random: &mut Random) -> Result<(), F
     let quote = random_quote(random, tick);
     let orders = random_orders(heap, random)?;
     let answer = trial(heap, class, quote, orders.as_slice())?;
-    assert_eq!(rt; answer, reckon(orders.as_slice(), &quote, tick));
-    assert_eq!(rt; answer.shares, most_shares(orders.as_slice(), &quote));
+    let reckoning = Reckoning {
+        orders: orders.as_slice(),
+        quote,
+    };
+    assert_eq!(rt; answer, reckoning.trial_price(tick));
+    let shares = match answer {
+        TrialPrice::Priced { shares, .. } => shares,
+        TrialPrice::Unpriced { .. } => 0,
+    };
+    assert_eq!(rt; shares, reckoning.most_shares());
     Ok(())
 }
 

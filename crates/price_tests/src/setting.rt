@@ -1,5 +1,4 @@
-// A book filled for a test, and its trial price in the words of the reckoning.
-use crate::reckoning::Reckoned;
+// A book filled for a test, and its trial price.
 use book::{Book, Store};
 use orders::order::Order;
 use orders::settings::Settings;
@@ -23,34 +22,10 @@ pub(crate) fn terms(number: u32, side: Side, kind: Kind, quantity: u32) -> Terms
 pub(crate) fn book_of(heap: Global, orders: &[Terms]) -> Result<RowTable, Fail> {
     let mut book = RowTable::new(heap, 256)?;
     for terms in orders {
-        let Some(order) = Order::new(*terms) else {
-            return Err(Fail::new("out of range"));
-        };
+        let order = Order::new(*terms).ok_or_else(|| Fail::new("out of range"))?;
         book.append(order)?;
     }
     Ok(book)
-}
-
-pub(crate) fn told(answer: TrialPrice) -> Reckoned {
-    match answer {
-        TrialPrice::Priced {
-            price,
-            shares,
-            surplus,
-            stops,
-        } => Reckoned {
-            price: Some(price),
-            shares: u64::from(shares),
-            surplus,
-            stops,
-        },
-        TrialPrice::Unpriced { stops } => Reckoned {
-            price: None,
-            shares: 0,
-            surplus: 0,
-            stops,
-        },
-    }
 }
 
 pub(crate) fn trial(
@@ -58,7 +33,7 @@ pub(crate) fn trial(
     class: u32,
     quote: Quote,
     orders: &[Terms],
-) -> Result<Reckoned, Fail> {
+) -> Result<TrialPrice, Fail> {
     let book = book_of(heap, orders)?;
-    Ok(told(trial_price(Settings::new(1, class)?, &book, quote)?))
+    Ok(trial_price(Settings::new(1, class)?, &book, quote)?)
 }

@@ -172,7 +172,3 @@ module _ (q : Quote) (ts : List Terms) (tick n : ℕ) (b : Best) (is : b ≡ bes
 
   pub fair_answer : {r : TrialPrice} → q.bid < q.ask → r ≡ auction_of tick q ts n → Fair q ts r
   fair_answer h e = subst (Fair q ts) (sym e) (fair q ts tick n h)
-
--- an answer on equal orders with an equal count of stops
-pub told_after : (tick : ℕ) (q : Quote) (ts us : List Terms) (n m : ℕ) {r : TrialPrice} → ts ≡ us → n ≡ m → r ≡ auction_of tick q ts n → r ≡ auction_of tick q us m
-told_after tick q ts us n m e k h = h ∙ ap (λ l. auction_of tick q l n) e ∙ ap (auction_of tick q us) k

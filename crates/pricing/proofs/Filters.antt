@@ -2,8 +2,9 @@
 use Rattle.std.proofs.Common.{◌≡◌, ℕ, ◌<◌, ◌≤◌, min, max, Bool, true, false, cond, ◌&&◌, eqb, ◌⊎◌, List, [], ◌∷◌, ◌++◌, length, Option, Some, None, IfSome, fold, sum_by, filter, refl, ap, ◌∙◌, subst, inl, inr, ⊎_elim, arith}
 use Rattle.std.proofs.lemmas.List.Sums.{sum_by-cons, fold_push}
 use Rattle.std.proofs.lemmas.Bool.{and_parts, and_from, cases_Bool, cases_lt, eqb-true}
-use Rattle.std.specs.List.{filter_map, cons_option, AllByRecursion}
-use Rattle.pricing.specs.Price.{all_of, lowest_of, highest_of}
+use Rattle.std.proofs.lemmas.List.Folds.{list_all-append}
+use Rattle.std.specs.List.{filter_map, cons_option, list_all, AllByRecursion}
+use Rattle.pricing.specs.Price.{lowest_of, highest_of}
 
 module _ {X : Type 0} where
   pub kept_none : (t : X → Bool) (xs : List X) → AllByRecursion (λ x. t x ≡ false) xs → filter t xs ≡ []
@@ -51,25 +52,20 @@ module _ {X : Type 0} where
   added_all P f h [] = tt
   added_all P f h (y ∷ ys) = all_with P (f y) (filter_map f ys) (h y) (added_all P f h ys)
 
-pub all_of_all : (t : ℕ → Bool) (ps : List ℕ) → all_of t ps ≡ true → AllByRecursion (λ p. t p ≡ true) ps
+pub all_of_all : (t : ℕ → Bool) (ps : List ℕ) → list_all t ps ≡ true → AllByRecursion (λ p. t p ≡ true) ps
 all_of_all t [] e = tt
-all_of_all t (p ∷ ps) e = let h = and_parts (t p) (all_of t ps) e in (h.0, all_of_all t ps h.1)
+all_of_all t (p ∷ ps) e = let h = and_parts (t p) (list_all t ps) e in (h.0, all_of_all t ps h.1)
 
-pub all_all_of : (t : ℕ → Bool) (ps : List ℕ) → AllByRecursion (λ p. t p ≡ true) ps → all_of t ps ≡ true
+pub all_all_of : (t : ℕ → Bool) (ps : List ℕ) → AllByRecursion (λ p. t p ≡ true) ps → list_all t ps ≡ true
 all_all_of t [] a = refl
-all_all_of t (p ∷ ps) a = and_from (t p) (all_of t ps) a.0 (all_all_of t ps a.1)
-
-and_assoc : (a b c : Bool) → (a && (b && c)) ≡ ((a && b) && c)
-and_assoc true b c = refl
-and_assoc false b c = refl
+all_all_of t (p ∷ ps) a = and_from (t p) (list_all t ps) a.0 (all_all_of t ps a.1)
 
 pub and_true : (a : Bool) → (a && true) ≡ a
 and_true true = refl
 and_true false = refl
 
-pub all_of_push : (t : ℕ → Bool) (ps : List ℕ) (p : ℕ) → all_of t (ps ++ p ∷ []) ≡ (all_of t ps && t p)
-all_of_push t [] p = and_true (t p)
-all_of_push t (r ∷ ps) p = ap (λ b. t r && b) (all_of_push t ps p) ∙ and_assoc (t r) (all_of t ps) (t p)
+pub all_of_push : (t : ℕ → Bool) (ps : List ℕ) (p : ℕ) → list_all t (ps ++ p ∷ []) ≡ (list_all t ps && t p)
+all_of_push t ps p = list_all-append t ps (p ∷ []) ∙ ap (λ b. list_all t ps && b) (and_true (t p))
 
 -- lowest and highest of a list that is not empty
 pub lowest_push : (ks : List ℕ) (p : ℕ) → 0 < length ks → lowest_of (ks ++ p ∷ []) ≡ min (lowest_of ks) p

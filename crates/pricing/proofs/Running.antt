@@ -10,9 +10,9 @@ use Rattle.std.specs.Cmp.{nat_cmp_is}
 use Rattle.std.specs.declared.cmp.Ordering.{Ordering}
 use Rattle.std.specs.declared.cmp.Ordering.TheVariants.{Less, Equal, Greater}
 use Rattle.std.specs.Ordering.{is_lt, is_gt, nat_cmp, ordering_then}
-use Rattle.std.specs.List.{AllByRecursion}
+use Rattle.std.specs.List.{list_all, AllByRecursion}
 use Rattle.pricing.proofs.Filters.{kept_none, kept_same, kept_twice, all_both, all_of_all, all_all_of, all_of_push, and_true, lowest_push, highest_push, lowest_all, highest_all, lowest_le_highest}
-use Rattle.pricing.specs.Price.{all_of, with_most, with_least, lowest_of, highest_of, price_among}
+use Rattle.pricing.specs.Price.{with_most, with_least, lowest_of, highest_of, price_among}
 use Rattle.pricing.specs.Steps.{lone_best, shared_lean, tied_best, picked, better_of, chosen_price}
 use Rattle.pricing.specs.declared.best.Best.{Best}
 
@@ -61,8 +61,8 @@ module _ (d s : ℕ → ℕ) where
     pub some : 0 < length ks
     pub low : b.lowest ≡ lowest_of ks
     pub high : b.highest ≡ highest_of ks
-    pub over : is_gt b.lean ≡ all_of (λ r. ltb (s r) (d r)) ks
-    pub under : is_lt b.lean ≡ all_of (λ r. ltb (d r) (s r)) ks
+    pub over : is_gt b.lean ≡ list_all (λ r. ltb (s r) (d r)) ks
+    pub under : is_lt b.lean ≡ list_all (λ r. ltb (d r) (s r)) ks
 
   -- b is the best of the levels ps
   pub record Leads (ps : List ℕ) (b : Best) : Type 0 where
@@ -126,8 +126,8 @@ module _ (d s : ℕ → ℕ) where
               some = omega (arith, length_push ks p);
               low = ap (λ z. min z p) t.low ∙ sym (lowest_push ks p t.some);
               high = ap (λ z. max z p) t.high ∙ sym (highest_push ks p t.some);
-              over = (shared_by b.lean (one p).lean).0 ∙ ap (λ z. z && is_gt (one p).lean) t.over ∙ ap (λ z. all_of (λ r. ltb (s r) (d r)) ks && z) (cmp_above (d p) (s p)) ∙ sym (all_of_push (λ r. ltb (s r) (d r)) ks p);
-              under = (shared_by b.lean (one p).lean).1 ∙ ap (λ z. z && is_lt (one p).lean) t.under ∙ ap (λ z. all_of (λ r. ltb (d r) (s r)) ks && z) (cmp_below (d p) (s p)) ∙ sym (all_of_push (λ r. ltb (d r) (s r)) ks p);
+              over = (shared_by b.lean (one p).lean).0 ∙ ap (λ z. z && is_gt (one p).lean) t.over ∙ ap (λ z. list_all (λ r. ltb (s r) (d r)) ks && z) (cmp_above (d p) (s p)) ∙ sym (all_of_push (λ r. ltb (s r) (d r)) ks p);
+              under = (shared_by b.lean (one p).lean).1 ∙ ap (λ z. z && is_lt (one p).lean) t.under ∙ ap (λ z. list_all (λ r. ltb (d r) (s r)) ks && z) (cmp_below (d p) (s p)) ∙ sym (all_of_push (λ r. ltb (d r) (s r)) ks p);
             });
       }
 
@@ -184,13 +184,13 @@ module _ (d s : ℕ → ℕ) where
     low_high = omega (arith, st.tells.low, st.tells.high, lowest_le_highest kept)
 
     -- a test of all levels is the test t, if the lowest kept level shows that they agree
-    tested : (test : ℕ → Bool) (t : Bool) (rs : List ℕ) → ((P : ℕ → Type 0) → AllByRecursion P rs → P b.lowest) → (t ≡ true → AllByRecursion (λ r. test r ≡ true) rs) → (test b.lowest ≡ true → t ≡ true) → all_of test rs ≡ t
+    tested : (test : ℕ → Bool) (t : Bool) (rs : List ℕ) → ((P : ℕ → Type 0) → AllByRecursion P rs → P b.lowest) → (t ≡ true → AllByRecursion (λ r. test r ≡ true) rs) → (test b.lowest ≡ true → t ≡ true) → list_all test rs ≡ t
     tested test t rs low met back =
         ⊎_elim (λ e. all_all_of test rs (met e) ∙ sym e)
-        (λ e. ⊎_elim (λ a. a ∙ sym (back (low (λ r. test r ≡ true) (all_of_all test rs a)))) (λ a. a ∙ sym e) (cases_Bool (all_of test rs)))
+        (λ e. ⊎_elim (λ a. a ∙ sym (back (low (λ r. test r ≡ true) (all_of_all test rs a)))) (λ a. a ∙ sym e) (cases_Bool (list_all test rs)))
         (cases_Bool t)
 
-    most_test : (r : ℕ) → traded r ≤ b.shares → all_of (λ x. leb (traded x) (traded r)) ps ≡ eqb (traded r) b.shares
+    most_test : (r : ℕ) → traded r ≤ b.shares → list_all (λ x. leb (traded x) (traded r)) ps ≡ eqb (traded r) b.shares
     most_test r h =
         tested (λ x. leb (traded x) (traded r)) (eqb (traded r) b.shares) ps low_all
         (λ e. All-weaker _ _ (λ x l. le-leb (traded x) (traded r) (omega (arith, eqb-true (traded r) b.shares e))) ps st.most)
@@ -208,7 +208,7 @@ module _ (d s : ℕ → ℕ) where
     twice : filter (λ r. eqb (apart r) b.difference) tops ≡ kept
     twice = kept_twice (λ r. eqb (traded r) b.shares) (λ r. eqb (apart r) b.difference) ps
 
-    least_test : (r : ℕ) → b.difference ≤ apart r → all_of (λ x. leb (apart r) (apart x)) tops ≡ eqb (apart r) b.difference
+    least_test : (r : ℕ) → b.difference ≤ apart r → list_all (λ x. leb (apart r) (apart x)) tops ≡ eqb (apart r) b.difference
     least_test r h =
         tested (λ x. leb (apart r) (apart x)) (eqb (apart r) b.difference) tops
         (λ P a. low_kept P (subst (AllByRecursion P) twice (all_kept_by (λ r. eqb (apart r) b.difference) P tops a)))
@@ -223,7 +223,7 @@ module _ (d s : ℕ → ℕ) where
         ∙ twice
 
     -- no level trades exactly when the best has no shares
-    pub none_is : all_of (λ r. eqb (traded r) 0) ps ≡ eqb b.shares 0
+    pub none_is : list_all (λ r. eqb (traded r) 0) ps ≡ eqb b.shares 0
     none_is =
         tested (λ r. eqb (traded r) 0) (eqb b.shares 0) ps low_all
         (λ e. All-weaker _ _ (λ r h. eq-eqb (traded r) 0 (omega (arith, eqb-true b.shares 0 e))) ps st.most)

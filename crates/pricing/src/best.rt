@@ -27,10 +27,9 @@ impl Best {
     fn lone(price: u32, demand: u32, supply: u32) -> Best
         ensures { result ≡ lone_best price demand supply }
     {
-        let shares = demand.min(supply);
         Best {
-            shares,
-            difference: demand.max(supply) - shares,
+            shares: demand.min(supply),
+            difference: demand.abs_diff(supply),
             lowest: price,
             highest: price,
             lean: demand.cmp(&supply),
@@ -70,6 +69,7 @@ impl Best {
     }
 
     // The price that the best levels give.
+    #[tactic(auto, using(orders::proofs::Stepping::tick_some))]
     pub(crate) fn price(self, settings: Settings) -> u32
         requires { (self.lowest ≤ 1000000000) × (self.highest ≤ 1000000000) }
         ensures { result ≡ chosen_price (grid_of settings).tick self }

@@ -52,16 +52,9 @@ impl MatchingQuote {
         ensures bound { result ≤ 1000000 }
     {
         match side {
-            Side::Buy => if price == self.quote.bid {
-                self.quote.bid_volume
-            } else {
-                0
-            },
-            Side::Sell => if price == self.quote.ask {
-                self.quote.ask_volume
-            } else {
-                0
-            },
+            Side::Buy if price == self.quote.bid => self.quote.bid_volume,
+            Side::Sell if price == self.quote.ask => self.quote.ask_volume,
+            _ => 0,
         }
     }
 }
@@ -78,6 +71,7 @@ impl Crossing {
     }
 
     // All that a side would trade at a price.
+    #[tactic(auto, using(crate::proofs::Bounding::volume_most))]
     pub(crate) fn depth_at(&self, side: Side, price: u32) -> u32
         ensures { result ≡ depth_at self.now.quote.quote self.now.orders.items side price }
     {

@@ -59,6 +59,7 @@ pub(crate) struct Crossing {
 }
 
 // Reads a book once, and triggers its stops.
+#[tactic(auto, using(crate::proofs::Bounding::parts_length, crate::proofs::Bounding::triggered_length, crate::proofs::Bounding::after_bounded))]
 pub(crate) fn cross<B: Book>(book: &B, quote: MatchingQuote) -> Crossing
     ensures quote { result.quote ≡ quote }
     ensures orders { result.orders.items ≡ after_stops quote.quote (B.Book.orders book.now) }

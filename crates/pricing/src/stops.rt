@@ -24,8 +24,9 @@ impl Quote {
     {
         match terms.kind {
             Kind::Market | Kind::Limit { .. } => false,
-            Kind::StopMarket { stop } => self.reaches(terms.side, stop),
-            Kind::StopLimit { stop, .. } => self.reaches(terms.side, stop),
+            Kind::StopMarket { stop } | Kind::StopLimit { stop, .. } => {
+                self.reaches(terms.side, stop)
+            }
         }
     }
 
