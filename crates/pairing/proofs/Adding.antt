@@ -1,14 +1,12 @@
 -- The fills of a book add up.
-use Rattle.std.proofs.Common.{◌≡◌, ℕ, suc, ◌+◌, ◌<◌, ◌≤◌, Bool, true, false, cond, ◌||◌, eqb, ltb, List, [], ◌∷◌, ◌++◌, map, length, Some, None, Ok, Err, sum_by, sym, refl, ap, ◌∙◌, ⊎_elim, arith}
+use Rattle.std.proofs.Common.{◌≡◌, ℕ, suc, ◌+◌, ◌<◌, ◌≤◌, Bool, true, false, cond, ◌||◌, eqb, List, [], ◌∷◌, ◌++◌, map, length, sum_by, refl, ap, ◌∙◌, ⊎_elim, arith}
 use Rattle.std.proofs.ByRecursion.{All-append, all_kept_by, All-map, All-weaker, all_shuffled}
 use Rattle.std.proofs.lemmas.List.{length-append, length-map}
 use Rattle.std.proofs.lemmas.List.Sums.{sum_by-cons}
-use Rattle.std.proofs.lemmas.Bool.{cases_eq, ne_eqb, eqb-false, lt-ltb, le-ltb, cond-true, cond-false}
+use Rattle.std.proofs.lemmas.Bool.{cases_eq, ne_eqb, eqb-false, cond-false}
 use Rattle.std.proofs.lemmas.Bool.Decides.{nat_tests}
 use Rattle.std.specs.List.{AllByRecursion}
-use Rattle.orders.specs.Answers.{answered, left}
 use Rattle.orders.specs.Ranges.{in_range}
-use Rattle.orders.specs.declared.refusal.Refusal.TheVariants.{FillEntries}
 use Rattle.orders.specs.declared.terms.Side.{Side}
 use Rattle.orders.specs.declared.terms.Side.TheVariants.{Buy, Sell}
 use Rattle.orders.specs.declared.terms.Terms.{Terms}
@@ -22,12 +20,11 @@ use Rattle.settling.specs.declared.fill.Fill.{Fill}
 use Rattle.pairing.proofs.Joining.{queued_shuffled}
 use Rattle.pairing.proofs.Serving.{bought_by, sold_by, paired_sum, paired_few, bought_most, sold_most}
 use Rattle.pairing.proofs.Wanting.{wanted_by, queue_sum, wanted_sum, both_sides, open_sum}
-use Rattle.pairing.specs.Answers.{fill_fault, in_front, Filled}
 use Rattle.pairing.specs.Laws.{shares_of, FillsAddUp}
 use Rattle.pairing.specs.Pairs.{paired, fills_at}
 use Rattle.pairing.specs.Priority.{ahead}
 use Rattle.pairing.specs.Queues.{placed_from, trading_at, interest_of, quote_interest, interests_at}
-use Rattle.pairing.specs.Steps.{queue_by, wanted, Pairable, Written}
+use Rattle.pairing.specs.Steps.{queue_by, wanted, Pairable}
 use Rattle.pairing.specs.declared.interest.Interest.{Interest}
 use Rattle.pairing.specs.declared.placed.Placed.{Placed}
 
@@ -172,21 +169,3 @@ module _ (q : Quote) (ts : List Terms) (p : ℕ) (bs ss : List Interest) (buys :
 
   pub fills_fit : q.bid < q.ask → (n : ℕ) → length ts ≤ n → length (paired p bs ss) ≤ n
   fills_fit h n e = omega (arith, fills_few q ts p h, ap length same_fills)
-
-  pub filled : (before fills : List Fill) (n : ℕ) → Sound ts → length ts ≤ length before → Written (paired p bs ss) before n fills → Filled q ts p before (Ok n) fills
-  filled before fills n s h w =
-      let fits : fill_fault ts before ≡ None = cond-false (ltb (length before) (length ts)) (Some FillEntries) None (le-ltb (length before) (length ts) h) in
-      record {
-        value = ap Ok (w.value ∙ ap length same_fills) ∙ sym (ap (λ f. answered f (length (fills_at q ts p))) fits);
-        after = w.after ∙ ap (λ fs. in_front fs before) same_fills ∙ sym (ap (λ f. left f before (in_front (fills_at q ts p) before)) fits);
-        sound = s;
-      }
-
-pub refused : (q : Quote) (ts : List Terms) (p : ℕ) (before : List Fill) → Sound ts → length before < length ts → Filled q ts p before (Err FillEntries) before
-refused q ts p before s h =
-    let short : fill_fault ts before ≡ Some FillEntries = cond-true (ltb (length before) (length ts)) (Some FillEntries) None (lt-ltb (length before) (length ts) h) in
-    record {
-      value = sym (ap (λ f. answered f (length (fills_at q ts p))) short);
-      after = sym (ap (λ f. left f before (in_front (fills_at q ts p) before)) short);
-      sound = s;
-    }
