@@ -1,5 +1,5 @@
 -- The fills of a book add up.
-use Rattle.std.proofs.Common.{◌≡◌, ℕ, suc, ◌+◌, ◌<◌, ◌≤◌, Bool, true, false, cond, ◌||◌, eqb, List, [], ◌∷◌, ◌++◌, map, length, sum_by, refl, ap, ◌∙◌, ⊎_elim, arith}
+use Rattle.std.proofs.Common.{◌≡◌, ℕ, suc, ◌+◌, ◌<◌, ◌≤◌, Bool, true, false, cond, ◌||◌, eqb, List, [], ◌∷◌, ◌++◌, map, length, sum_by, refl, ap, ⊎_elim, arith}
 use Rattle.std.proofs.ByRecursion.{All-append, all_kept_by, All-map, All-weaker, all_shuffled}
 use Rattle.std.proofs.lemmas.List.{length-append, length-map}
 use Rattle.std.proofs.lemmas.List.Sums.{sum_by-cons}
@@ -21,7 +21,7 @@ use Rattle.pairing.proofs.Joining.{queued_shuffled}
 use Rattle.pairing.proofs.Serving.{bought_by, sold_by, paired_sum, paired_few, bought_most, sold_most}
 use Rattle.pairing.proofs.Wanting.{wanted_by, queue_sum, wanted_sum, both_sides, open_sum}
 use Rattle.pairing.specs.Laws.{shares_of, FillsAddUp}
-use Rattle.pairing.specs.Pairs.{paired, fills_at}
+use Rattle.pairing.specs.Pairs.{fills_at}
 use Rattle.pairing.specs.Priority.{ahead}
 use Rattle.pairing.specs.Queues.{placed_from, trading_at, interest_of, quote_interest, interests_at}
 use Rattle.pairing.specs.Steps.{queue_by, wanted, Pairable}
@@ -51,8 +51,7 @@ one_quote q p h =
 
 -- the shares that fills trade for a number are bought or sold under it
 either_le : (a b : Bool) (n : ℕ) → cond (a || b) n 0 ≤ cond a n 0 + cond b n 0
-either_le true b n = omega arith
-either_le false b n = omega arith
+either_le a b n = grind (arith, nat_tests)
 
 pub traded_le : (n : ℕ) (fs : List Fill) → traded_of n fs ≤ sum_by (bought_by (λ m. eqb m n)) fs + sum_by (sold_by (λ m. eqb m n)) fs
 traded_le n [] = omega arith
@@ -161,11 +160,3 @@ side_pairable before ts side p v s h =
       some = side_some before ts side p v s;
       sum = omega (arith, wanted_sum before side p ts (λ _. true) v, side_le quantity_of side p ts, shares_most ts s);
     }
-
--- what the code gives for the two sides as it has them
-module _ (q : Quote) (ts : List Terms) (p : ℕ) (bs ss : List Interest) (buys : bs ≡ interests_at q ts Buy p) (sells : ss ≡ interests_at q ts Sell p) where
-  same_fills : paired p bs ss ≡ fills_at q ts p
-  same_fills = ap (λ l. paired p l ss) buys ∙ ap (paired p (interests_at q ts Buy p)) sells
-
-  pub fills_fit : q.bid < q.ask → (n : ℕ) → length ts ≤ n → length (paired p bs ss) ≤ n
-  fills_fit h n e = omega (arith, fills_few q ts p h, ap length same_fills)

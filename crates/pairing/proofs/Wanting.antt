@@ -3,6 +3,7 @@ use Rattle.std.proofs.Common.{◌≡◌, ℕ, suc, ◌+◌, ◌≤◌, Bool, tru
 use Rattle.std.proofs.lemmas.List.Sorted.{sum_by-IsPermutation}
 use Rattle.std.proofs.lemmas.List.Sums.{sum_by-cons, sum_by-append}
 use Rattle.std.proofs.lemmas.Bool.{cases_Bool, eqb-true, and_parts, or_parts, not-true, cond-true, cond-false}
+use Rattle.std.proofs.lemmas.Bool.Decides.{nat_tests}
 use Rattle.orders.specs.Forms.{side_code}
 use Rattle.orders.specs.declared.terms.Side.{Side}
 use Rattle.orders.specs.declared.terms.Side.TheVariants.{Buy, Sell}
@@ -62,8 +63,7 @@ module _ (before : Placed → Placed → Bool) (side : Side) (p : ℕ) (ts : Lis
       ∙ ap (λ n. sum_by (λ u. cond (takes_at side p u) (cond (t u.number) u.quantity 0) 0) ts + n) (quote_sum t v)
 
 part_le : (b : Bool) (n : ℕ) → cond b n 0 ≤ n
-part_le true n = omega arith
-part_le false n = omega arith
+part_le b n = grind (arith, nat_tests)
 
 -- an order trades on one side at most
 one_side : (side : Side) (a b : Bool) (n : ℕ) → cond (eqb (side_code side) 0 && a) n 0 + cond (eqb (side_code side) 1 && b) n 0 ≤ n

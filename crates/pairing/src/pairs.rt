@@ -29,6 +29,7 @@ fn pair_shares(
     ensures { Written (paired price buys.now sells.now) fills.old result fills.new }
 {
     let mut left = shares;
+    // Counted by hand: the count is the answer.
     let mut count = 0;
     let mut rest = sells;
     let mut taken = 0;
