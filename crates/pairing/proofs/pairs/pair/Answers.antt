@@ -2,8 +2,8 @@ use Rattle.std.proofs.Common.{◌+◌, ◌<◌, ◌∷◌, get_or, drop}
 use Rattle.pairing.proofs.Turning.{Turned, interest, lessened, sell, not_taken, turned, gone_on, all_used, next_sell, same_sell, through, none_to_sell, finished}
 use Rattle.pairing.specs.Pairs.{paired}
 use Rattle.pairing.specs.declared.interest.Interest.{Interest}
-use Rattle.pairing.proofs.pairs.pair_shares.Goals as goal
-use Rattle.pairing.proofs.pairs.pair_shares.Goals.{In-Some, After-min-quantity}
+use Rattle.pairing.proofs.pairs.pair.Goals as goal
+use Rattle.pairing.proofs.pairs.pair.Goals.{In-Some, After-min-quantity}
 
 abbrev nobody : Interest
 nobody = record { number = 0; quantity = 0 }
