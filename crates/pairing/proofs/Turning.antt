@@ -2,7 +2,7 @@
 use Rattle.std.proofs.Common.{◌≡◌, ℕ, ◌+◌, ◌-◌, ◌<◌, ◌≤◌, min, false, cond, eqb, leb, List, [], ◌∷◌, ◌++◌, length, get_or, take, drop, set, sum_by, sym, refl, ap, ◌∙◌, subst, ⊎_elim, arith}
 use Rattle.std.proofs.lemmas.List.{append_assoc, length-set, take_more_set, take-append-drop, drop-set-lt, at_drop_more}
 use Rattle.std.proofs.lemmas.List.Sums.{sum_by-cons}
-use Rattle.std.proofs.lemmas.Bool.{cases_lt, cases_eq, eq-eqb, ne_eqb, le-leb, lt-leb, cond-true, cond-false}
+use Rattle.std.proofs.lemmas.Bool.{cases_lt, eq-eqb, ne_eqb, le-leb, lt-leb, cond-true, cond-false, eqb-true, eqb-false, cond_both}
 use Rattle.std.specs.List.{AllByRecursion}
 use Rattle.settling.specs.declared.fill.Fill.{Fill}
 use Rattle.pairing.specs.Pairs.{Served, a_fill, served, paired}
@@ -96,17 +96,13 @@ pub record Going (w : ℕ) (rest ss : List Interest) (left : ℕ) : Type 0 where
 
 after_sum : (x : ℕ) (s : Interest) (ss : List Interest) → x ≤ s.quantity → sum_by wanted (sells_after x s ss) + x ≡ s.quantity + sum_by wanted ss
 after_sum x s ss h =
-    ⊎_elim
-    (λ e. ap (λ l. sum_by wanted l + x) (cond-true (eqb x s.quantity) ss (lessened x (s ∷ ss)) (eq-eqb _ _ e)) ∙ (let k : sum_by wanted ss + x ≡ s.quantity + sum_by wanted ss = omega arith in k))
-    (λ e. ap (λ l. sum_by wanted l + x) (cond-false (eqb x s.quantity) ss (lessened x (s ∷ ss)) (ne_eqb _ _ e)) ∙ (let k : sum_by wanted (lessened x (s ∷ ss)) + x ≡ s.quantity + sum_by wanted ss = omega (arith, sum_by-cons wanted (interest s.number (s.quantity - x)) ss) in k))
-    (cases_eq x s.quantity)
+    cond_both (eqb x s.quantity) ss (lessened x (s ∷ ss)) (λ l. sum_by wanted l + x ≡ s.quantity + sum_by wanted ss)
+    (λ e. omega (arith, eqb-true x s.quantity e))
+    (λ e. omega (arith, sum_by-cons wanted (interest s.number (s.quantity - x)) ss))
 
 after_all : (x : ℕ) (s : Interest) (ss : List Interest) → x ≤ s.quantity → AllByRecursion (λ i. 1 ≤ i.quantity) ss → AllByRecursion (λ i. 1 ≤ i.quantity) (sells_after x s ss)
 after_all x s ss h a =
-    ⊎_elim
-    (λ e. subst (AllByRecursion (λ i. 1 ≤ i.quantity)) (sym (cond-true (eqb x s.quantity) ss (lessened x (s ∷ ss)) (eq-eqb _ _ e))) a)
-    (λ e. subst (AllByRecursion (λ i. 1 ≤ i.quantity)) (sym (cond-false (eqb x s.quantity) ss (lessened x (s ∷ ss)) (ne_eqb _ _ e))) (omega arith, a))
-    (cases_eq x s.quantity)
+    cond_both (eqb x s.quantity) ss (lessened x (s ∷ ss)) (AllByRecursion (λ i. 1 ≤ i.quantity)) (λ e. a) (λ e. let some : x ≡ s.quantity → ⊥ = eqb-false x s.quantity e in (omega arith, a))
 
 pub going_on : (w : ℕ) (rest : List Interest) (s : Interest) (ss : List Interest) (left x : ℕ) → x ≡ min w s.quantity → Going w rest (s ∷ ss) left → Going (w - x) rest (sells_after x s ss) (left - x)
 going_on w rest s ss left x e g =
