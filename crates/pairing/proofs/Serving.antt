@@ -3,6 +3,7 @@ use Rattle.std.proofs.Common.{◌≡◌, ℕ, ◌+◌, ◌-◌, ◌<◌, ◌≤�
 use Rattle.std.proofs.lemmas.List.{append_assoc, length-append}
 use Rattle.std.proofs.lemmas.List.Sums.{sum_by-cons, sum_by-append}
 use Rattle.std.proofs.lemmas.Bool.{cases_eq, cases_lt, eqb-true, leb-true, leb-false}
+use Rattle.std.proofs.lemmas.Bool.Decides.{nat_tests}
 use Rattle.settling.specs.declared.fill.Fill.{Fill}
 use Rattle.pairing.proofs.Wanting.{wanted_by}
 use Rattle.pairing.specs.Laws.{shares_of}
@@ -26,16 +27,13 @@ record Serves (b r : ℕ) (ss : List Interest) (v : Served) : Type 0 where
   last : length v.left ≡ 0 → length v.fills ≤ length ss
 
 cond_none : (b : Bool) → ◌≡◌ {A = ℕ} 0 (cond b 0 0)
-cond_none true = refl
-cond_none false = refl
+cond_none b = grind (arith, nat_tests)
 
 cond_add : (b : Bool) (m n : ℕ) → cond b (m + n) 0 ≡ cond b m 0 + cond b n 0
-cond_add true m n = refl
-cond_add false m n = refl
+cond_add b m n = grind (arith, nat_tests)
 
 cond_le : (b : Bool) (m n : ℕ) → m ≤ n → cond b m 0 ≤ cond b n 0
-cond_le true m n h = h
-cond_le false m n h = omega arith
+cond_le b m n h = grind (arith, nat_tests)
 
 serves : (p b r : ℕ) (ss : List Interest) → Serves b r ss (served p b r ss)
 serves p b r [] = record { sum = omega arith; gets = λ t. cond_none (t b); gives = λ t. omega arith; few = omega arith; last = λ e. omega arith }
@@ -140,8 +138,7 @@ left_sum p (x ∷ xs) ss =
 
 -- a sum over the numbers that pass a test, and over the others
 cond_not : (b : Bool) (n : ℕ) → cond b n 0 + cond (not b) n 0 ≡ n
-cond_not true n = omega arith
-cond_not false n = omega arith
+cond_not b n = grind (arith, nat_tests)
 
 bought_parts : (t : ℕ → Bool) (fs : List Fill) → sum_by (bought_by t) fs + sum_by (bought_by (λ n. not (t n))) fs ≡ sum_by shares_of fs
 bought_parts t [] = refl

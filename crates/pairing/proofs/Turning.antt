@@ -1,8 +1,8 @@
 -- The loops that pair: what is written, and what is still to come, give the same array in the end.
 use Rattle.std.proofs.Common.{◌≡◌, ℕ, ◌+◌, ◌-◌, ◌<◌, ◌≤◌, min, false, cond, eqb, leb, List, [], ◌∷◌, ◌++◌, length, get_or, take, drop, set, sum_by, sym, refl, ap, ◌∙◌, subst, ⊎_elim, arith}
-use Rattle.std.proofs.lemmas.List.{append_assoc, length-set, take_more_set, take-append-drop, drop-set-lt, drop_more, at_drop_more}
+use Rattle.std.proofs.lemmas.List.{append_assoc, length-set, take_more_set, take-append-drop, drop-set-lt, at_drop_more}
 use Rattle.std.proofs.lemmas.List.Sums.{sum_by-cons}
-use Rattle.std.proofs.lemmas.Bool.{cases_lt, cases_eq, eq-eqb, ne_eqb, le-leb, lt-leb, cond-true, cond-false}
+use Rattle.std.proofs.lemmas.Bool.{cases_lt, eq-eqb, ne_eqb, le-leb, lt-leb, cond-true, cond-false, eqb-true, eqb-false, cond_both}
 use Rattle.std.specs.List.{AllByRecursion}
 use Rattle.settling.specs.declared.fill.Fill.{Fill}
 use Rattle.pairing.specs.Pairs.{Served, a_fill, served, paired}
@@ -18,9 +18,6 @@ pub record Course (n₀ : ℕ) (out₀ fs₀ : List Fill) (n : ℕ) (out fs : Li
   pub ends : final n out fs ≡ final n₀ out₀ fs₀
   pub counts : n + length fs ≡ n₀ + length fs₀
   pub room : n + length fs ≤ length out
-
-pub begun : (n : ℕ) (out fs : List Fill) → n + length fs ≤ length out → Course n out fs n out fs
-begun n out fs h = record { ends = refl; counts = refl; room = h }
 
 pub joined_course : {n₀ n₁ n : ℕ} {out₀ fs₀ out₁ fs₁ out fs : List Fill} → Course n₀ out₀ fs₀ n₁ out₁ fs₁ → Course n₁ out₁ fs₁ n out fs → Course n₀ out₀ fs₀ n out fs
 joined_course c d = record { ends = d.ends ∙ c.ends; counts = d.counts ∙ c.counts; room = d.room }
@@ -99,17 +96,13 @@ pub record Going (w : ℕ) (rest ss : List Interest) (left : ℕ) : Type 0 where
 
 after_sum : (x : ℕ) (s : Interest) (ss : List Interest) → x ≤ s.quantity → sum_by wanted (sells_after x s ss) + x ≡ s.quantity + sum_by wanted ss
 after_sum x s ss h =
-    ⊎_elim
-    (λ e. ap (λ l. sum_by wanted l + x) (cond-true (eqb x s.quantity) ss (lessened x (s ∷ ss)) (eq-eqb _ _ e)) ∙ (let k : sum_by wanted ss + x ≡ s.quantity + sum_by wanted ss = omega arith in k))
-    (λ e. ap (λ l. sum_by wanted l + x) (cond-false (eqb x s.quantity) ss (lessened x (s ∷ ss)) (ne_eqb _ _ e)) ∙ (let k : sum_by wanted (lessened x (s ∷ ss)) + x ≡ s.quantity + sum_by wanted ss = omega (arith, sum_by-cons wanted (interest s.number (s.quantity - x)) ss) in k))
-    (cases_eq x s.quantity)
+    cond_both (eqb x s.quantity) ss (lessened x (s ∷ ss)) (λ l. sum_by wanted l + x ≡ s.quantity + sum_by wanted ss)
+    (λ e. omega (arith, eqb-true x s.quantity e))
+    (λ e. omega (arith, sum_by-cons wanted (interest s.number (s.quantity - x)) ss))
 
 after_all : (x : ℕ) (s : Interest) (ss : List Interest) → x ≤ s.quantity → AllByRecursion (λ i. 1 ≤ i.quantity) ss → AllByRecursion (λ i. 1 ≤ i.quantity) (sells_after x s ss)
 after_all x s ss h a =
-    ⊎_elim
-    (λ e. subst (AllByRecursion (λ i. 1 ≤ i.quantity)) (sym (cond-true (eqb x s.quantity) ss (lessened x (s ∷ ss)) (eq-eqb _ _ e))) a)
-    (λ e. subst (AllByRecursion (λ i. 1 ≤ i.quantity)) (sym (cond-false (eqb x s.quantity) ss (lessened x (s ∷ ss)) (ne_eqb _ _ e))) (omega arith, a))
-    (cases_eq x s.quantity)
+    cond_both (eqb x s.quantity) ss (lessened x (s ∷ ss)) (AllByRecursion (λ i. 1 ≤ i.quantity)) (λ e. a) (λ e. let some : x ≡ s.quantity → ⊥ = eqb-false x s.quantity e in (omega arith, a))
 
 pub going_on : (w : ℕ) (rest : List Interest) (s : Interest) (ss : List Interest) (left x : ℕ) → x ≡ min w s.quantity → Going w rest (s ∷ ss) left → Going (w - x) rest (sells_after x s ss) (left - x)
 going_on w rest s ss left x e g =
@@ -196,21 +189,8 @@ module _ (sells : List Interest) (k : ℕ) (head : Interest) (behind : List Inte
 
 -- the buyer at place i
 module _ (p : ℕ) (buys : List Interest) (i : ℕ) (d : Interest) (ss : List Interest) where
-  pub first_buyer : {n₀ : ℕ} {out₀ fs₀ : List Fill} (n : ℕ) (out : List Fill) (left : ℕ) → i < length buys → Course n₀ out₀ fs₀ n out (paired p (drop i buys) ss) → Going 0 (drop i buys) ss left → Course n out (paired p (get_or buys i d ∷ drop (i + 1) buys) ss) n out (paired p (get_or buys i d ∷ drop (i + 1) buys) ss) × Going (get_or buys i d).quantity (drop (i + 1) buys) ss left
-  first_buyer {n₀} {out₀} {fs₀} n out left h c g =
-      let buyers = subst (AllByRecursion (λ b. 1 ≤ b.quantity)) (drop_more buys i d h) g.buyers in
-      let wants = ap (sum_by wanted) (drop_more buys i d h) ∙ sum_by-cons wanted (get_or buys i d) (drop (i + 1) buys) in (
-        begun n out _ (subst (Course n₀ out₀ fs₀ n out) (at_drop_more (λ bs. paired p bs ss) buys i d h) c).room,
-        record { used = omega (arith, g.used, wants); buyers = buyers.1; sellers = g.sellers },
-      )
-
   pub through : {n₀ n₁ n : ℕ} {out₀ fs₀ out₁ out fs : List Fill} → i < length buys → Course n₀ out₀ fs₀ n₁ out₁ (paired p (drop i buys) ss) → Course n₁ out₁ (paired p (get_or buys i d ∷ drop (i + 1) buys) ss) n out fs → Course n₀ out₀ fs₀ n out fs
   through {n₀} {n₁} {n} {out₀} {fs₀} {out₁} h c k = joined_course (subst (Course n₀ out₀ fs₀ n₁ out₁) (at_drop_more (λ bs. paired p bs ss) buys i d h) c) k
-
--- a buyer is left who wants no more
-pub next_buyer : {n₀ : ℕ} {out₀ fs₀ : List Fill} (p b w : ℕ) (rest ss : List Interest) (n : ℕ) (out : List Fill) (left : ℕ) → w ≡ 0 → Course n₀ out₀ fs₀ n out (paired p (interest b w ∷ rest) ss) → Going w rest ss left → Course n₀ out₀ fs₀ n out (paired p rest ss) × Going 0 rest ss left
-next_buyer {n₀} {out₀} {fs₀} p b w rest ss n out left e c g =
-    (subst (Course n₀ out₀ fs₀ n out) (ap (λ r. paired p (interest b r ∷ rest) ss) e ∙ sated p b rest ss) c, subst (λ r. Going r rest ss left) e g)
 
 -- no sells are left
 pub none_to_sell : {n₀ : ℕ} {out₀ fs₀ : List Fill} (p : ℕ) (bs ss : List Interest) (k n : ℕ) (out : List Fill) → length ss ≡ 0 → Course n₀ out₀ fs₀ n out (paired p bs (lessened k ss)) → Course n₀ out₀ fs₀ n out []

@@ -2,7 +2,8 @@
 use Rattle.std.proofs.Common.{◌≡◌, ℕ, suc, ◌+◌, ◌≤◌, Bool, true, false, cond, not, ◌&&◌, eqb, List, [], ◌∷◌, ◌++◌, map, sum_by, filter, sym, refl, ap, ◌∙◌, subst, ⊎_elim, arith}
 use Rattle.std.proofs.lemmas.List.Sorted.{sum_by-IsPermutation}
 use Rattle.std.proofs.lemmas.List.Sums.{sum_by-cons, sum_by-append}
-use Rattle.std.proofs.lemmas.Bool.{cases_Bool, eqb-true, and_parts, or_parts, not-true, cond-true, cond-false}
+use Rattle.std.proofs.lemmas.Bool.{cases_Bool, eqb-true, and_parts, or_parts, not-true, cond-true, cond-false, cond_both}
+use Rattle.std.proofs.lemmas.Bool.Decides.{nat_tests}
 use Rattle.orders.specs.Forms.{side_code}
 use Rattle.orders.specs.declared.terms.Side.{Side}
 use Rattle.orders.specs.declared.terms.Side.TheVariants.{Buy, Sell}
@@ -29,10 +30,9 @@ sum_by_kept t f [] = refl
 sum_by_kept t f (x ∷ xs) =
     let rest = sum_by_kept t f xs in
     let whole = sum_by-cons (λ x. cond (t x) (f x) 0) x xs in
-    ⊎_elim
-    (λ e. ap (sum_by f) (cond-true (t x) (x ∷ filter t xs) (filter t xs) e) ∙ sum_by-cons f x (filter t xs) ∙ (let k : f x + sum_by f (filter t xs) ≡ sum_by (λ y. cond (t y) (f y) 0) (x ∷ xs) = omega (arith, rest, whole, cond-true (t x) (f x) 0 e) in k))
-    (λ e. ap (sum_by f) (cond-false (t x) (x ∷ filter t xs) (filter t xs) e) ∙ (let k : sum_by f (filter t xs) ≡ sum_by (λ y. cond (t y) (f y) 0) (x ∷ xs) = omega (arith, rest, whole, cond-false (t x) (f x) 0 e) in k))
-    (cases_Bool (t x))
+    cond_both (t x) (x ∷ filter t xs) (filter t xs) (λ l. sum_by f l ≡ sum_by (λ y. cond (t y) (f y) 0) (x ∷ xs))
+    (λ e. omega (arith, rest, whole, sum_by-cons f x (filter t xs), cond-true (t x) (f x) 0 e))
+    (λ e. omega (arith, rest, whole, cond-false (t x) (f x) 0 e))
 
 sum_by_placed : (f : Terms → ℕ) (i : ℕ) (ts : List Terms) → sum_by (λ a. f a.terms) (placed_from i ts) ≡ sum_by f ts
 sum_by_placed f i [] = refl
@@ -40,11 +40,10 @@ sum_by_placed f i (t ∷ ts) =
     omega (arith, sum_by-cons (λ a. f a.terms) (record { place = i; terms = t }) (placed_from (suc i) ts), sum_by-cons f t ts, sum_by_placed f (suc i) ts)
 
 quote_sum : (t : ℕ → Bool) (v : ℕ) → sum_by (wanted_by t) (quote_interest v) ≡ cond (t 0) v 0
-quote_sum t v = go (eqb v 0) (eqb-true v 0)
-  where
-    go : (none : Bool) → (none ≡ true → v ≡ 0) → sum_by (wanted_by t) (cond none [] (record { number = 0; quantity = v } ∷ [])) ≡ cond (t 0) v 0
-    go true h = ⊎_elim (λ e. rw e (sym (h refl))) (λ e. rw e) (cases_Bool (t 0))
-    go false h = omega arith
+quote_sum t v =
+    cond_both (eqb v 0) [] (record { number = 0; quantity = v } ∷ []) (λ l. sum_by (wanted_by t) l ≡ cond (t 0) v 0)
+    (λ e. let none = eqb-true v 0 e in cond_both (t 0) v 0 (λ n. 0 ≡ n) (λ _. sym none) (λ _. refl))
+    (λ e. omega arith)
 
 module _ (before : Placed → Placed → Bool) (side : Side) (p : ℕ) (ts : List Terms) where
   -- a sum over a queue is one over the orders that trade
@@ -62,8 +61,7 @@ module _ (before : Placed → Placed → Bool) (side : Side) (p : ℕ) (ts : Lis
       ∙ ap (λ n. sum_by (λ u. cond (takes_at side p u) (cond (t u.number) u.quantity 0) 0) ts + n) (quote_sum t v)
 
 part_le : (b : Bool) (n : ℕ) → cond b n 0 ≤ n
-part_le true n = omega arith
-part_le false n = omega arith
+part_le b n = grind (arith, nat_tests)
 
 -- an order trades on one side at most
 one_side : (side : Side) (a b : Bool) (n : ℕ) → cond (eqb (side_code side) 0 && a) n 0 + cond (eqb (side_code side) 1 && b) n 0 ≤ n

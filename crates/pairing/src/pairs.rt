@@ -1,5 +1,5 @@
 // The pairing of the two sides of an auction.
-ghost use Rattle.std.specs.Prelude.{◌≡◌, ◌≤◌, min, length, sum_by};
+ghost use Rattle.std.specs.Prelude.{◌≡◌, ◌≤◌, length, sum_by};
 ghost use Rattle.pairing.specs.Pairs.{paired};
 ghost use Rattle.pairing.specs.Steps.{wanted, Pairable, Written};
 
@@ -15,20 +15,15 @@ fn total(interests: &[Interest]) -> u32
 }
 
 // Pairs the first unfilled buy with the first unfilled sell until the shares are used up.
-fn pair_shares(
-    price: u32,
-    buys: &[Interest],
-    sells: &[Interest],
-    shares: u32,
-    fills: &mut [Fill],
-) -> usize
+// Writes the fills to the front of the array, and tells how many there are.
+pub(crate) fn pair(price: u32, buys: &[Interest], sells: &[Interest], fills: &mut [Fill]) -> usize
     requires buyers { Pairable buys.now }
     requires sellers { Pairable sells.now }
-    requires used { shares ≡ min (sum_by wanted buys.now) (sum_by wanted sells.now) }
     requires room { length (paired price buys.now sells.now) ≤ length fills.old }
     ensures { Written (paired price buys.now sells.now) fills.old result fills.new }
 {
-    let mut left = shares;
+    let mut left = total(buys).min(total(sells));
+    // Counted by hand: the count is the answer.
     let mut count = 0;
     let mut rest = sells;
     let mut taken = 0;
@@ -60,15 +55,4 @@ fn pair_shares(
         }
     }
     count
-}
-
-// Writes the fills of the two sides to the front of the array, and tells how many there are.
-pub(crate) fn pair(price: u32, buys: &[Interest], sells: &[Interest], fills: &mut [Fill]) -> usize
-    requires buyers { Pairable buys.now }
-    requires sellers { Pairable sells.now }
-    requires room { length (paired price buys.now sells.now) ≤ length fills.old }
-    ensures { Written (paired price buys.now sells.now) fills.old result fills.new }
-{
-    let shares = total(buys).min(total(sells));
-    pair_shares(price, buys, sells, shares, fills)
 }

@@ -1,7 +1,7 @@
 use Rattle.std.proofs.Common.{◌+◌, ◌∷◌, drop}
 use Rattle.pairing.proofs.Turning.{Course, Going, interest, lessened}
 use Rattle.pairing.specs.Pairs.{paired}
-use Rattle.pairing.proofs.pairs.pair_shares.Given as goal
+use Rattle.pairing.proofs.pairs.pair.Given as goal
 
 -- the buyer at hand stands in front, with what he still wants
 abbrev pub invariant-loop-open : goal.invariant-loop-open
