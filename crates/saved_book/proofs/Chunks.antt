@@ -1,6 +1,6 @@
 -- A list made of parts that are all as long.
 use Rattle.std.proofs.Common.{◌≡◌, ℕ, zero, suc, ◌+◌, ◌*◌, List, [], ◌∷◌, ◌++◌, length, drop, sym, ap, ◌∙◌, add_comm, mul-zero, mul-suc, arith, length-append}
-use Rattle.std.proofs.lemmas.List.{drop_all, drop_at, drop-drop, flat_map_more}
+use Rattle.std.proofs.lemmas.List.{drop_all, drop_at, drop-drop}
 use Rattle.std.specs.List.{flat_map}
 
 module _ {X : Type 0} (f : X → List ℕ) (s : ℕ) (size : (x : X) → length (f x) ≡ s) where

@@ -1,14 +1,7 @@
 -- Parts laid over a list.
 use Rattle.std.proofs.Common.{◌≡◌, ℕ, ◌+◌, ◌≤◌, List, ◌++◌, length, take, drop, sym, ap, ◌∙◌, append_assoc, zero-add, arith, length-append}
-use borrow.Rule.Slice.PartMut.{put_mid}
 use Rattle.std.proofs.lemmas.List.{length-take-le, take_at, drop_at, drop-drop}
 use Rattle.saved_book.specs.Steps.{laid}
-
--- a part of k bytes that was written
-pub put_laid : (at k : ℕ) (xs part ys : List ℕ) → ys ≡ part → k ≡ length part → put_mid at k xs ys ≡ laid at part xs
-put_laid at k xs part ys e s =
-    let rest : drop k (drop at xs) ≡ drop (at + length part) xs = drop-drop k at xs ∙ ap (λ m. drop (at + m) xs) s in
-    (λ i. take at xs ++ (e i ++ rest i))
 
 -- a part behind another is one part
 pub laid_next : (at m : ℕ) (p q xs : List ℕ) → at + length p ≡ m → m ≤ length xs → laid m q (laid at p xs) ≡ laid at (p ++ q) xs

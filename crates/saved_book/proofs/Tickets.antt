@@ -101,13 +101,25 @@ pub read : (g : Grid) (o : Option Ticket) (u : Terms) → checked_record g o ≡
 read g None u e = cc
 read g (Some t) u e = by_check g t u _ refl e
 
-numbered : (n p : ℕ) (s : Option Side) (o : Option OrderType) (q l t : ℕ) (k : Ticket) → ticket_of n p s o q l t ≡ Some k → n ≡ k.number
-numbered n p None o q l t k e = cc
-numbered n p (Some s) None q l t k e = cc
-numbered n p (Some s) (Some o) q l t k e = let z : record { number = n; participant = p; side = s; order_type = o; quantity = q; limit = l; stop = t } ≡ k = cc in ap (λ x. x.number) z
+-- what a ticket that is read is made of
+record Made (n p : ℕ) (s : Option Side) (o : Option OrderType) (q l t : ℕ) (k : Ticket) : Type 0 where
+  number : n ≡ k.number
+  participant : p ≡ k.participant
+  side : s ≡ Some k.side
+  type : o ≡ Some k.order_type
+  quantity : q ≡ k.quantity
+  limit : l ≡ k.limit
+  stop : t ≡ k.stop
 
-pub ticket_numbered : (bs : List ℕ) (n at : ℕ) (k : Ticket) → ticket_at bs n at ≡ Some k → n ≡ k.number
-ticket_numbered bs n at k e = numbered n (two_at bs at) (side_named (get_or bs (at + 2) 0)) (type_named (get_or bs (at + 3) 0)) (four_at bs (at + 4)) (four_at bs (at + 8)) (four_at bs (at + 12)) k e
+made_of : (n p : ℕ) (s : Option Side) (o : Option OrderType) (q l t : ℕ) (k : Ticket) → ticket_of n p s o q l t ≡ Some k → Made n p s o q l t k
+made_of n p None o q l t k e = cc
+made_of n p (Some s) None q l t k e = cc
+made_of n p (Some s) (Some o) q l t k e =
+    let z : record { number = n; participant = p; side = s; order_type = o; quantity = q; limit = l; stop = t } ≡ k = cc in
+    record { number = ap (λ x. x.number) z; participant = ap (λ x. x.participant) z; side = ap (λ x. Some x.side) z; type = ap (λ x. Some x.order_type) z; quantity = ap (λ x. x.quantity) z; limit = ap (λ x. x.limit) z; stop = ap (λ x. x.stop) z }
+
+made_at : (bs : List ℕ) (n at : ℕ) (k : Ticket) → ticket_at bs n at ≡ Some k → Made n (two_at bs at) (side_named (get_or bs (at + 2) 0)) (type_named (get_or bs (at + 3) 0)) (four_at bs (at + 4)) (four_at bs (at + 8)) (four_at bs (at + 12)) k
+made_at bs n at k e = made_of n (two_at bs at) (side_named (get_or bs (at + 2) 0)) (type_named (get_or bs (at + 3) 0)) (four_at bs (at + 4)) (four_at bs (at + 8)) (four_at bs (at + 12)) k e
 
 module _ (g : Grid) (bs : List ℕ) (n k : ℕ) (u : Terms) (e : record_at g bs n k ≡ Ok u) where
   pub read_ranged : in_range u ≡ true
@@ -116,7 +128,7 @@ module _ (g : Grid) (bs : List ℕ) (n k : ℕ) (u : Terms) (e : record_at g bs 
   pub read_number : u.number ≡ four_at bs (8 + 4 * k)
   read_number =
       let r = read g (ticket_at bs (four_at bs (8 + 4 * k)) (8 + 4 * n + 16 * k)) u e in
-      ap (λ t. t.number) r.passed.whole ∙ sym (ticket_numbered bs (four_at bs (8 + 4 * k)) (8 + 4 * n + 16 * k) r.ticket r.is)
+      ap (λ t. t.number) r.passed.whole ∙ sym (made_at bs (four_at bs (8 + 4 * k)) (8 + 4 * n + 16 * k) r.ticket r.is).number
 
 -- a ticket is read from its record alone
 pub ticket_from : (bs : List ℕ) (n at : ℕ) → ticket_at bs n at ≡ ticket_at (drop at bs) n 0
@@ -144,26 +156,10 @@ type_coded b Limit e = grind (arith, nat_tests)
 type_coded b StopMarket e = grind (arith, nat_tests)
 type_coded b StopLimit e = grind (arith, nat_tests)
 
--- what a ticket that is read is made of
-record Made (p : ℕ) (s : Option Side) (o : Option OrderType) (q l t : ℕ) (k : Ticket) : Type 0 where
-  participant : p ≡ k.participant
-  side : s ≡ Some k.side
-  type : o ≡ Some k.order_type
-  quantity : q ≡ k.quantity
-  limit : l ≡ k.limit
-  stop : t ≡ k.stop
-
-made_of : (n p : ℕ) (s : Option Side) (o : Option OrderType) (q l t : ℕ) (k : Ticket) → ticket_of n p s o q l t ≡ Some k → Made p s o q l t k
-made_of n p None o q l t k e = cc
-made_of n p (Some s) None q l t k e = cc
-made_of n p (Some s) (Some o) q l t k e =
-    let z : record { number = n; participant = p; side = s; order_type = o; quantity = q; limit = l; stop = t } ≡ k = cc in
-    record { participant = ap (λ x. x.participant) z; side = ap (λ x. Some x.side) z; type = ap (λ x. Some x.order_type) z; quantity = ap (λ x. x.quantity) z; limit = ap (λ x. x.limit) z; stop = ap (λ x. x.stop) z }
-
 -- the bytes of a record that is read are those of its ticket
 pub ticket_written : (bs : List ℕ) (n at : ℕ) (k : Ticket) → at + 16 ≤ length bs → Bytes bs → ticket_at bs n at ≡ Some k → take 16 (drop at bs) ≡ ticket_bytes k
 ticket_written bs n at k h b e =
-    let m = made_of n (two_at bs at) (side_named (get_or bs (at + 2) 0)) (type_named (get_or bs (at + 3) 0)) (four_at bs (at + 4)) (four_at bs (at + 8)) (four_at bs (at + 12)) k e in
+    let m = made_at bs n at k e in
     let side : take 1 (drop (at + 2) bs) ≡ side_code k.side ∷ [] = ap (take 1) (first bs (at + 2) (omega arith)) ∙ ap (λ x. x ∷ []) (side_coded _ k.side m.side) in
     let type : take 1 (drop (at + 3) bs) ≡ type_code k.order_type ∷ [] = ap (take 1) (first bs (at + 3) (omega arith)) ∙ ap (λ x. x ∷ []) (type_coded _ k.order_type m.type) in
     let participant = two_written bs at (omega arith) b ∙ ap two m.participant in

@@ -24,6 +24,7 @@ fn put_head(out: &mut [u8], count: usize)
 }
 
 // What one part of a saved book has of each order: `N` bytes.
+// A bound `Fn` may not name `N`, so the two parts are types and not closures.
 trait Part<const N: usize> {
     ghost part: { Terms → List ℕ };
 
@@ -57,6 +58,7 @@ fn put_each<P: Part<N>, const N: usize, B: Book>(book: &B, out: &mut [u8], at: u
     ensures after { out.new ≡ laid at (flat_map P.Part.part (B.Book.orders book.now)) out.old }
     ensures fit { AllByRecursion fits_its_bytes (B.Book.orders book.now) }
 {
+    // chunks of a lent slice do not tell a proof what is written to them, so the end is kept
     let mut end = at;
     for order in orders_of(book) {
         put(out, end, &P::part_of(order.terms()));

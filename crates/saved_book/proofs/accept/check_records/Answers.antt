@@ -1,8 +1,8 @@
-use Rattle.std.proofs.Common.{◌≡◌, is_ok, sym, ap, ◌∙◌, add-one, arith}
+use Rattle.std.proofs.Common.{is_ok, sym, ap, ◌∙◌, add-one}
 use Rattle.orders.specs.Results.{seen}
 use Rattle.orders.specs.Told.{grid_of}
 use Rattle.saved_book.specs.Decoding.{orders_upto}
-use Rattle.saved_book.proofs.Upto.{checked_err, checked_ok, stays_to, ok_told}
+use Rattle.saved_book.proofs.Upto.{checked_err, checked_ok, stays_to}
 use Rattle.saved_book.proofs.accept.check_records.Goals as goal
 
 pub returns-in-Err : goal.returns-in-Err
@@ -21,4 +21,3 @@ loop-place-preserved c =
     let k = c.loop-place.place in
     ap (λ m. is_ok (orders_upto g bs n m)) (add-one k)
     ∙ checked_ok g bs n k c.in_default.field-0 c.loop-place.invariant c.in_default.ensures
-

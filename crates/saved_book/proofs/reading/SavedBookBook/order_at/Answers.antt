@@ -1,9 +1,7 @@
 use Rattle.std.proofs.Common.{sym, ap, ◌∙◌, arith}
-use Rattle.std.proofs.lemmas.Option.{slice_get_past}
 use Rattle.std.specs.Option.{option_map}
 use Rattle.std.specs.Result.{result_ok}
 use Rattle.orders.specs.Told.{terms_of, grid_of}
-use Rattle.saved_book.specs.Meaning.{orders_read}
 use Rattle.saved_book.proofs.Opening.{nth_in, ok_seen}
 use Rattle.saved_book.proofs.reading.SavedBookBook.order_at.Goals as goal
 
