@@ -73,8 +73,8 @@ pub struct Twins {
     pub second: Ended,
 }
 
-// Two days, one after the other.
-fn run_both<A: Store, B: Store>(
+// Two days side by side, over stores of whatever make.
+pub fn run_twins<A: Store, B: Store>(
     settings: Settings,
     store: &mut A,
     stock: &mut LockedStock<'_>,
@@ -100,35 +100,4 @@ fn run_both<A: Store, B: Store>(
         other_journal,
     );
     Twins { first, second }
-}
-
-// Two days side by side, over stores of whatever make.
-pub fn run_twins<A: Store, B: Store>(
-    settings: Settings,
-    store: &mut A,
-    stock: &mut LockedStock<'_>,
-    calls: &[Call],
-    journal: &mut Journal,
-    other_store: &mut B,
-    other_stock: &mut LockedStock<'_>,
-    other_calls: &[Call],
-    other_journal: &mut Journal,
-) -> Twins
-    ensures laws { SideBySide
-        (day_held (grid_of settings) (A.Store.room store.old) stock.old (A.Book.orders store.old) calls.now result.first.calls (told_by journal.old) (told_by journal.new) (state_of result.first.phase (A.Book.orders store.new) stock.new))
-        (day_held (grid_of settings) (B.Store.room other_store.old) other_stock.old (B.Book.orders other_store.old) other_calls.now result.second.calls (told_by other_journal.old) (told_by other_journal.new) (state_of result.second.phase (B.Book.orders other_store.new) other_stock.new)) }
-    ensures first_carried { result.first.calls < length calls.now → has_room journal.new ≡ false }
-    ensures second_carried { result.second.calls < length other_calls.now → has_room other_journal.new ≡ false }
-{
-    run_both(
-        settings,
-        store,
-        stock,
-        calls,
-        journal,
-        other_store,
-        other_stock,
-        other_calls,
-        other_journal,
-    )
 }
