@@ -35,8 +35,7 @@ fn run_from<S: Store>(
     ensures grid { grid_in result.phase ≡ grid_in start }
 {
     let mut phase = start;
-    let mut carried = 0;
-    for call in calls {
+    for (carried, call) in calls.iter().enumerate() {
         if !journal.has_room() {
             return Ended {
                 phase,
@@ -44,11 +43,10 @@ fn run_from<S: Store>(
             };
         }
         phase = turn(phase, store, stock, *call, journal);
-        carried += 1;
     }
     Ended {
         phase,
-        calls: carried,
+        calls: calls.len(),
     }
 }
 
