@@ -1,7 +1,7 @@
 -- One more note at the end of a journal.
-use Rattle.std.proofs.Common.{◌≡◌, ℕ, ◌+◌, ◌-◌, List, [], ◌∷◌, ◌++◌, length, take, drop, sum_by, sym, refl, ap, ◌∙◌, arith, length-append, length-drop}
+use Rattle.std.proofs.Common.{◌≡◌, ℕ, ◌+◌, ◌-◌, List, [], ◌∷◌, ◌++◌, length, take, drop, sum_by, sym, refl, ap, ◌∙◌, arith, length-drop}
 use Rattle.std.proofs.lemmas.List.{take-append-le, drop-append-le, take-take}
-use Rattle.std.proofs.lemmas.List.Sums.{sum_by-cons, sum_by_push}
+use Rattle.std.proofs.lemmas.List.Sums.{sum_by-cons}
 use Rattle.orders.specs.declared.terms.Terms.{Terms}
 use Rattle.settling.specs.declared.fill.Fill.{Fill}
 use Rattle.locked_stock.specs.declared.receipt.Receipt.{Receipt}
@@ -11,7 +11,7 @@ use Rattle.days.specs.declared.answer.Answer.{Answer}
 use Rattle.days.specs.declared.note.Note.{Note}
 
 -- a list that has as many elements as the notes count
-abbrev pub Counts : {X : Type 0} → (Answer → ℕ) → List Note → List X → Type 0
+abbrev Counts : {X : Type 0} → (Answer → ℕ) → List Note → List X → Type 0
 Counts m ns xs = sum_by (λ n. m n.answer) ns ≡ length xs
 
 none_left : {X : Type 0} (xs : List X) → 0 ≡ length xs → xs ≡ []
@@ -23,13 +23,13 @@ module _ {X : Type 0} (m : Answer → ℕ) (n : Note) (ns : List Note) (xs ys : 
   counted = sym (sum_by-cons (λ k. m k.answer) n ns) ∙ h
 
   -- what the first note takes is there, and what it leaves is counted by the rest
-  pub front : take (m n.answer) (xs ++ ys) ≡ take (m n.answer) xs
+  front : take (m n.answer) (xs ++ ys) ≡ take (m n.answer) xs
   front = take-append-le (m n.answer) xs ys (omega (arith, counted))
 
-  pub behind : drop (m n.answer) (xs ++ ys) ≡ drop (m n.answer) xs ++ ys
+  behind : drop (m n.answer) (xs ++ ys) ≡ drop (m n.answer) xs ++ ys
   behind = drop-append-le (m n.answer) xs ys (omega (arith, counted))
 
-  pub left_over : Counts m ns (drop (m n.answer) xs)
+  left_over : Counts m ns (drop (m n.answer) xs)
   left_over = let k = counted in simp length-drop (omega arith)
 
 pub noted : (ns : List Note) (ts ts' : List Terms) (fs fs' : List Fill) (rs rs' : List Receipt) (n : Note) → Counts stops_in ns ts → Counts fills_in ns fs → Counts receipts_in ns rs →
@@ -41,13 +41,6 @@ noted (m ∷ ns) ts ts' fs fs' rs rs' n a b c =
     (λ i. record { call = m.call; answer = m.answer; triggered = front stops_in m ns ts ts' a i; fills = front fills_in m ns fs fs' b i; receipts = front receipts_in m ns rs rs' c i }
     ∷ entries_of (ns ++ n ∷ []) (behind stops_in m ns ts ts' a i) (behind fills_in m ns fs fs' b i) (behind receipts_in m ns rs rs' c i))
     ∙ ap (λ l. entry_with m ts fs rs ∷ l) rest
-
--- the counts with one more note
-pub counts_more : {X : Type 0} (m : Answer → ℕ) (ns ns' : List Note) (n : Note) (xs ys zs : List X) (k : ℕ) → Counts m ns xs → length ys ≡ m n.answer → ns' ≡ ns ++ n ∷ [] → zs ≡ xs ++ ys → k ≡ length zs → sum_by (λ x. m x.answer) ns' ≡ k
-counts_more m ns ns' n xs ys zs k c e p q l =
-    let sum = ap (sum_by (λ x. m x.answer)) p ∙ sum_by_push (λ x. m x.answer) ns n in
-    let long = ap length q ∙ length-append xs ys in
-    omega arith
 
 -- a note takes as much of the lists as its answer says, whatever stands behind
 again : {X : Type 0} (n k : ℕ) (xs : List X) → k ≡ n → take n (take (k - 0) xs) ≡ take n xs

@@ -5,6 +5,7 @@ pub mod Delaying
 pub mod Conserving
 mod Entering
 mod Waiting
+mod Carrying
 mod Meeting
 mod Lifting
 mod Siding

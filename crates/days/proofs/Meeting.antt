@@ -28,12 +28,13 @@ use Rattle.engine.specs.Freezes.{match_fault, matched_as}
 use Rattle.engine.specs.Matches.{match_refusal, MatchHeld}
 use Rattle.engine.specs.declared.matched.Matched.{Matched}
 use Rattle.days.specs.Counts.{stops_in, fills_in, receipts_in}
-use Rattle.days.specs.Days.{State, in_pre_call, in_freeze, Turn, meets}
-use Rattle.days.specs.Meets.{call_of, SameFault, MatchTold}
+use Rattle.days.specs.Days.{State, in_pre_call, in_freeze, Turn, meets, turn}
 use Rattle.days.specs.Phases.{rules_of}
-use Rattle.days.specs.Steps.{StockKept}
+use Rattle.days.specs.Steps.{SameFault, CarriedOut}
+use Rattle.days.specs.Journals.{entry_with}
 use Rattle.days.specs.declared.answer.Answer.TheVariants as answer
-use Rattle.days.specs.declared.match_call.MatchCall.{MatchCall}
+use Rattle.days.specs.declared.answer.Answer.{Answer}
+use Rattle.days.specs.declared.call.Call.TheVariants.{Match}
 
 -- what the answer of a match counts
 counts : (t : TrialPrice) (f n : ℕ) → (fills_in (answer.Matched (matched_as t f n)) ≡ f) × (receipts_in (answer.Matched (matched_as t f n)) ≡ n)
@@ -55,18 +56,26 @@ pub length_receipts : (room : ℕ) (is : List (Instruction Terms)) (ts : List Te
 length_receipts room [] ts = refl
 length_receipts room (i ∷ is) ts = omega (arith, length_receipts room is (carried_book room i ts))
 
-module _ (g : Grid) (room : ℕ) (l : WaitingLine (Instruction Order)) (ts : List Terms) (m : MatchCall) where
+-- a match as the rules have it: its entry read off the arrays, and the state after it
+record MatchTold (g : Grid) (room : ℕ) (l : WaitingLine (Instruction Order)) (ts : List Terms) (q : Quote) (f n : ℕ) (a : Answer) (filled : List Fill) (told : List Receipt) (t : State) : Type 0 where
+  entry : entry_with (record { call = Match q f n; answer = a }) (triggered_orders q ts) filled told ≡ (turn (rules_of g room l) (in_freeze ts (held_in l)) (Match q f n)).entry
+  state : t ≡ (turn (rules_of g room l) (in_freeze ts (held_in l)) (Match q f n)).state
+  stops : stops_in a ≤ length (triggered_orders q ts)
+  fills : fills_in a ≤ length filled
+  receipts : receipts_in a ≤ length told
+
+module _ (g : Grid) (room : ℕ) (l : WaitingLine (Instruction Order)) (ts : List Terms) (q : Quote) (lent_fills lent_receipts : ℕ) where
   abbrev held : List (Instruction Terms)
   held = held_in l
 
   abbrev auctioned : Auction
-  auctioned = auction_under g.tick m.quote ts
+  auctioned = auction_under g.tick q ts
 
   abbrev by_fault : Option Refusal → Turn
-  by_fault x = meets (rules_of g room l) held (call_of m) auctioned ts x
+  by_fault x = meets (rules_of g room l) held (Match q lent_fills lent_receipts) auctioned ts x
 
   -- a refused match
-  pub refused : (e : Refusal) (filled : List Fill) (told : List Receipt) (t : State) → match_fault g (rules_of g room l).stock m.quote m.fills m.receipts ts ≡ Some e → t ≡ in_freeze ts held → MatchTold g room l ts m (answer.Refused e) filled told t
+  refused : (e : Refusal) (filled : List Fill) (told : List Receipt) (t : State) → match_fault g (rules_of g room l).stock q lent_fills lent_receipts ts ≡ Some e → t ≡ in_freeze ts held → MatchTold g room l ts q lent_fills lent_receipts (answer.Refused e) filled told t
   refused e filled told t h s =
       record {
         entry = ap (λ x. (by_fault x).entry) (sym h);
@@ -77,23 +86,23 @@ module _ (g : Grid) (room : ℕ) (l : WaitingLine (Instruction Order)) (ts : Lis
       }
 
   -- a match that is held
-  pub met : (x : Matched) (filled : List Fill) (fills₀ : List Fill) (told : List Receipt) (told₀ : List Receipt) (t : State) → match_fault g (rules_of g room l).stock m.quote m.fills m.receipts ts ≡ None →
+  met : (x : Matched) (filled : List Fill) (fills₀ : List Fill) (told : List Receipt) (told₀ : List Receipt) (t : State) → match_fault g (rules_of g room l).stock q lent_fills lent_receipts ts ≡ None →
       x ≡ matched_as auctioned.found (length auctioned.fills) (length held) → filled ≡ in_front auctioned.fills fills₀ → told ≡ entries_after room held auctioned.book told₀ →
-      t ≡ in_pre_call (book_after room held auctioned.book) [] → MatchTold g room l ts m (answer.Matched x) filled told t
+      t ≡ in_pre_call (book_after room held auctioned.book) [] → MatchTold g room l ts q lent_fills lent_receipts (answer.Matched x) filled told t
   met x filled fills₀ told told₀ t h e f r s =
       let a = answer.Matched x in
       let c = counts auctioned.found (length auctioned.fills) (length held) in
-      let n : stops_in a ≡ length (triggered_orders m.quote ts) = ap (λ y. stops_in (answer.Matched y)) e ∙ counted_stops g.tick m.quote ts (length auctioned.fills) (length held) in
+      let n : stops_in a ≡ length (triggered_orders q ts) = ap (λ y. stops_in (answer.Matched y)) e ∙ counted_stops g.tick q ts (length auctioned.fills) (length held) in
       let k : fills_in a ≡ length auctioned.fills = ap (λ y. fills_in (answer.Matched y)) e ∙ c.0 in
       let j : receipts_in a ≡ length held = ap (λ y. receipts_in (answer.Matched y)) e ∙ c.1 in
       let rs = receipts_of room held auctioned.book in
       let long : length rs ≡ receipts_in a = length_receipts room held auctioned.book ∙ sym j in
-      let ts_told : take (stops_in a) (triggered_orders m.quote ts) ≡ auctioned.triggered = take_all (stops_in a) (triggered_orders m.quote ts) (omega arith) in
+      let ts_told : take (stops_in a) (triggered_orders q ts) ≡ auctioned.triggered = take_all (stops_in a) (triggered_orders q ts) (omega arith) in
       let fs_told : take (fills_in a) filled ≡ auctioned.fills = ap (take (fills_in a)) f ∙ take_at auctioned.fills (drop (length auctioned.fills) fills₀) (fills_in a) (sym k) in
       let rs_told : take (receipts_in a) told ≡ rs = ap (take (receipts_in a)) r ∙ take_at rs (drop (length held) told₀) (receipts_in a) long in
       record {
         entry =
-            (λ i. record { call = call_of m; answer = answer.Matched (e i); triggered = ts_told i; fills = fs_told i; receipts = rs_told i })
+            (λ i. record { call = Match q lent_fills lent_receipts; answer = answer.Matched (e i); triggered = ts_told i; fills = fs_told i; receipts = rs_told i })
             ∙ ap (λ y. (by_fault y).entry) (sym h);
         state = s ∙ ap (λ y. (by_fault y).state) (sym h);
         stops = omega arith;
@@ -101,21 +110,26 @@ module _ (g : Grid) (room : ℕ) (l : WaitingLine (Instruction Order)) (ts : Lis
         receipts = omega (arith, ap length r, length-append rs (drop (length held) told₀));
       }
 
-  module _ (fills fills' : List Fill) (receipts receipts' : List Receipt) (room' : ℕ) (l' : WaitingLine (Instruction Order)) (ts' : List Terms) (same : SameFault g l ts m fills receipts) where
-    pub told_refused : (e : Refusal) → MatchHeld g m.quote room l ts fills receipts (Err e) room' l' ts' fills' receipts' → MatchTold g room l ts m (answer.Refused e) fills' receipts' (in_freeze ts' (held_in l'))
-    told_refused e h =
-        let some = refused_by (match_refusal g m.quote l ts fills receipts) _ e h.value in
-        refused e fills' receipts' (in_freeze ts' (held_in l')) (sym same ∙ some) (λ i. in_freeze ((rw some at h.book) i) ((rw some at h.held) i))
+  module _ (fills fills' : List Fill) (receipts receipts' : List Receipt) (room' : ℕ) (l' : WaitingLine (Instruction Order)) (ts' : List Terms) (same : SameFault g l ts q (length fills) (length receipts) lent_fills lent_receipts) where
+    -- over any arrays that are refused as these are
+    carried : (g' : Grid) (a : Answer) (t : State) (r : Result Matched Refusal) → g' ≡ g → MatchHeld g q room l ts fills receipts r room' l' ts' fills' receipts' → MatchTold g room l ts q lent_fills lent_receipts a fills' receipts' t →
+        CarriedOut g room l (in_freeze ts (held_in l)) (Match q lent_fills lent_receipts) a fills' receipts' g' room' l' t
+    carried g' a t r e h m =
+        record { entry = m.entry; state = m.state; stops = m.stops; fills = m.fills; receipts = m.receipts; grid = e; kept = record { room = ap room_of h.slots; lent = h.lent }; same = h.same }
 
-    pub told_matched : (x : Matched) → MatchHeld g m.quote room l ts fills receipts (Ok x) room' l' ts' fills' receipts' → MatchTold g room l ts m (answer.Matched x) fills' receipts' (in_pre_call ts' (held_in l'))
-    told_matched x h =
-        let none = not_refused (match_refusal g m.quote l ts fills receipts) _ x h.value in
-        met x fills' fills receipts' receipts (in_pre_call ts' (held_in l')) (sym same ∙ none)
-        (answered_as (match_refusal g m.quote l ts fills receipts) _ x h.value) (rw none at h.filled) (rw none at h.receipted)
-        (λ i. in_pre_call ((rw none at h.book) i) ((rw none at h.held) i))
+    pub carried_refused : (g' : Grid) (e : Refusal) → g' ≡ g → MatchHeld g q room l ts fills receipts (Err e) room' l' ts' fills' receipts' →
+        CarriedOut g room l (in_freeze ts (held_in l)) (Match q lent_fills lent_receipts) (answer.Refused e) fills' receipts' g' room' l' (in_freeze ts' (held_in l'))
+    carried_refused g' e p h =
+        let some = refused_by (match_refusal g q l ts fills receipts) _ e h.value in
+        carried g' _ _ (Err e) p h (refused e fills' receipts' (in_freeze ts' (held_in l')) (sym same ∙ some) (λ i. in_freeze ((rw some at h.book) i) ((rw some at h.held) i)))
 
-    pub kept_by_match : (r : Result Matched Refusal) → MatchHeld g m.quote room l ts fills receipts r room' l' ts' fills' receipts' → StockKept l l'
-    kept_by_match r h = record { room = ap room_of h.slots; lent = h.lent }
+    pub carried_matched : (g' : Grid) (x : Matched) → g' ≡ g → MatchHeld g q room l ts fills receipts (Ok x) room' l' ts' fills' receipts' →
+        CarriedOut g room l (in_freeze ts (held_in l)) (Match q lent_fills lent_receipts) (answer.Matched x) fills' receipts' g' room' l' (in_pre_call ts' (held_in l'))
+    carried_matched g' x p h =
+        let none = not_refused (match_refusal g q l ts fills receipts) _ x h.value in
+        carried g' _ _ (Ok x) p h (met x fills' fills receipts' receipts (in_pre_call ts' (held_in l')) (sym same ∙ none)
+        (answered_as (match_refusal g q l ts fills receipts) _ x h.value) (rw none at h.filled) (rw none at h.receipted)
+        (λ i. in_pre_call ((rw none at h.book) i) ((rw none at h.held) i)))
 
 -- arrays of at most 256 entries are refused as longer ones are
 capped : (n k : ℕ) → k ≤ 256 → ltb (min n 256) k ≡ ltb n k

@@ -1,5 +1,5 @@
 -- An instruction in a freeze, by what the locked stock answers.
-use Rattle.std.proofs.Common.{◌≡◌, ℕ, min, Bool, true, false, cond, eqb, List, [], ◌∷◌, ◌++◌, length, set, Ok, Err, Result, sym, refl, ap, ◌∙◌, subst, length-set}
+use Rattle.std.proofs.Common.{◌≡◌, ℕ, min, Bool, true, false, cond, eqb, List, [], ◌∷◌, ◌++◌, length, set, Ok, Err, Result, sym, refl, ap, ◌∙◌, subst, arith, length-set}
 use Rattle.std.proofs.lemmas.List.{length-map}
 use Rattle.orders.specs.Checks.{checked}
 use Rattle.orders.specs.Ticks.{Grid}
@@ -14,12 +14,36 @@ use Rattle.waiting_line.specs.Lines.{waiting, room_of, slot_at, is_full}
 use Rattle.waiting_line.specs.declared.line.WaitingLine.{WaitingLine}
 use Rattle.locked_stock.specs.Holding.{held_in, slots_of, Joined, HeldBy}
 use Rattle.engine.specs.Freezes.{admitted_to}
-use Rattle.instructions.specs.declared.effect.Effect.{Effect}
 use Rattle.days.specs.Counts.{stops_in, fills_in, receipts_in}
-use Rattle.days.specs.Days.{in_freeze, plain, answer_of, waits}
-use Rattle.days.specs.Steps.{Bare, told_waiting, waited, held_with, Waits}
+use Rattle.days.specs.Days.{in_freeze, waits}
+use Rattle.days.specs.Steps.{StockKept, told_waiting, CarriedOut}
+use Rattle.days.specs.Journals.{entry_with}
+use Rattle.settling.specs.declared.fill.Fill.{Fill}
+use Rattle.locked_stock.specs.declared.receipt.Receipt.{Receipt}
 use Rattle.days.specs.declared.answer.Answer.{Answer}
+use Rattle.days.specs.declared.answer.Answer.TheVariants.{Held, Refused}
 use Rattle.days.specs.declared.call.Call.TheVariants.{Send}
+
+-- an answer that tells of nothing triggered, filled or receipted
+record Bare (a : Answer) : Type 0 where
+  stops : stops_in a ≡ 0
+  fills : fills_in a ≡ 0
+  receipts : receipts_in a ≡ 0
+
+-- the answer to an instruction in a freeze, and what is held then, if it may wait or not
+abbrev waited : Result (Instruction Terms) Refusal → Answer
+waited (Ok i) = Held
+waited (Err e) = Refused e
+
+abbrev held_with : List (Instruction Terms) → Result (Instruction Terms) Refusal → List (Instruction Terms)
+held_with held (Ok i) = held ++ i ∷ []
+held_with held (Err e) = held
+
+-- an instruction in a freeze waits, or is refused
+record Waits (g : Grid) (i : Instruction Ticket) (l : WaitingLine (Instruction Order)) (answer : Answer) (after : WaitingLine (Instruction Order)) : Type 0 where
+  value : answer ≡ waited (admitted_to (room_of l.slots.now) (held_in l) (checked g i))
+  held : held_in after ≡ held_with (held_in l) (admitted_to (room_of l.slots.now) (held_in l) (checked g i))
+  kept : StockKept l after
 
 -- a full stock answers its refusal, another lets the instruction in
 by_room : (b : Bool) (i : Instruction Terms) → told_waiting (cond b (Err LockedStockFull) (Ok tt)) ≡ waited (cond b (Err LockedStockFull) (Ok i))
@@ -64,19 +88,36 @@ by_check : (g : Grid) (t : Instruction Ticket) (x : Result (Instruction Terms) R
 by_check g t (Ok i) l after r e h = joined_waits g t i l after r e h
 by_check g t (Err d) l after r e h = refused_waits g t d l after r e h.0 h.1
 
-pub waits_by : (g : Grid) (t : Instruction Ticket) (l after : WaitingLine (Instruction Order)) (r : Result (Unit {0}) Refusal) (a : Answer) → a ≡ told_waiting r → HeldBy (checked g t) l r after → Waits g t l a after
+waits_by : (g : Grid) (t : Instruction Ticket) (l after : WaitingLine (Instruction Order)) (r : Result (Unit {0}) Refusal) (a : Answer) → a ≡ told_waiting r → HeldBy (checked g t) l r after → Waits g t l a after
 waits_by g t l after r a e h = subst (λ x. Waits g t l x after) (sym e) (by_check g t (checked g t) l after r refl h)
 
--- an answer to an instruction tells of nothing triggered, filled or receipted
-pub bare_answer : (a : Answer) (y : Result Effect Refusal) → a ≡ answer_of y → Bare a
-bare_answer a (Ok x) e = record { stops = ap stops_in e; fills = ap fills_in e; receipts = ap receipts_in e }
-bare_answer a (Err x) e = record { stops = ap stops_in e; fills = ap fills_in e; receipts = ap receipts_in e }
-
-pub bare_waited : (a : Answer) (x : Result (Instruction Terms) Refusal) → a ≡ waited x → Bare a
+-- an answer to an instruction in a freeze tells of nothing triggered, filled or receipted
+bare_waited : (a : Answer) (x : Result (Instruction Terms) Refusal) → a ≡ waited x → Bare a
 bare_waited a (Ok i) e = record { stops = ap stops_in e; fills = ap fills_in e; receipts = ap receipts_in e }
 bare_waited a (Err d) e = record { stops = ap stops_in e; fills = ap fills_in e; receipts = ap receipts_in e }
 
 -- an instruction in a freeze as the rules have it
-pub waited_turn : (ts : List Terms) (held : List (Instruction Terms)) (i : Instruction Ticket) (x : Result (Instruction Terms) Refusal) → waits ts held i x ≡ record { entry = plain (Send i) (waited x); state = in_freeze ts (held_with held x) }
-waited_turn ts held i (Ok j) = refl
-waited_turn ts held i (Err e) = refl
+waited_entry : (ts : List Terms) (held : List (Instruction Terms)) (i : Instruction Ticket) (x : Result (Instruction Terms) Refusal) (fs : List Fill) (rs : List Receipt) → entry_with (record { call = Send i; answer = waited x }) [] fs rs ≡ (waits ts held i x).entry
+waited_entry ts held i (Ok j) fs rs = refl
+waited_entry ts held i (Err e) fs rs = refl
+
+waited_state : (ts : List Terms) (held : List (Instruction Terms)) (i : Instruction Ticket) (x : Result (Instruction Terms) Refusal) → in_freeze ts (held_with held x) ≡ (waits ts held i x).state
+waited_state ts held i (Ok j) = refl
+waited_state ts held i (Err e) = refl
+
+pub carried_waits : (g : Grid) (room : ℕ) (ts : List Terms) (fs : List Fill) (rs : List Receipt) (t : Instruction Ticket) (l : WaitingLine (Instruction Order)) (r : Result (Unit {0}) Refusal) (a : Answer) (after : WaitingLine (Instruction Order)) → a ≡ told_waiting r → HeldBy (checked g t) l r after →
+    CarriedOut g room l (in_freeze ts (held_in l)) (Send t) a fs rs g room after (in_freeze ts (held_in after))
+carried_waits g room ts fs rs t l r a after e h =
+    let w = waits_by g t l after r a e h in
+    let x = admitted_to (room_of l.slots.now) (held_in l) (checked g t) in
+    let b = bare_waited a x w.value in
+    record {
+      entry = ap (λ y. entry_with (record { call = Send t; answer = y }) [] fs rs) w.value ∙ waited_entry ts (held_in l) t x fs rs;
+      state = ap (in_freeze ts) w.held ∙ waited_state ts (held_in l) t x;
+      stops = omega (arith, b.stops);
+      fills = omega (arith, b.fills);
+      receipts = omega (arith, b.receipts);
+      grid = refl;
+      kept = w.kept;
+      same = refl;
+    }

@@ -6,6 +6,5 @@ pub mod Conserved
 pub mod Journals
 pub mod Phases
 pub mod Steps
-pub mod Meets
 pub mod Runs
 pub mod Twins

@@ -1,12 +1,9 @@
 -- What the steps of the code give.
-use Rattle.std.specs.Prelude.{◌≡◌, ◌≤◌, List, [], ◌∷◌, ◌++◌, length, Ok, Err, Result}
-use Rattle.orders.specs.Checks.{checked}
+use Rattle.std.specs.Prelude.{◌≡◌, ℕ, ◌≤◌, List, [], ◌∷◌, ◌++◌, length, Some, None, Ok, Err, Option, Result}
 use Rattle.orders.specs.Ticks.{Grid}
 use Rattle.orders.specs.declared.instruction.Instruction.{Instruction}
 use Rattle.orders.specs.declared.refusal.Refusal.{Refusal}
-use Rattle.orders.specs.declared.ticket.Ticket.{Ticket}
-use Rattle.engine.specs.Freezes.{admitted_to}
-use Rattle.locked_stock.specs.Holding.{held_in}
+use Rattle.engine.specs.Freezes.{match_fault}
 use Rattle.orders.specs.declared.order.Order.{Order}
 use Rattle.orders.specs.declared.terms.Terms.{Terms}
 use Rattle.waiting_line.specs.Lines.{room_of}
@@ -14,19 +11,17 @@ use Rattle.waiting_line.specs.declared.line.WaitingLine.{WaitingLine}
 use Rattle.settling.specs.declared.fill.Fill.{Fill}
 use Rattle.locked_stock.specs.declared.receipt.Receipt.{Receipt}
 use Rattle.days.specs.Counts.{stops_in, fills_in, receipts_in}
-use Rattle.days.specs.Days.{Rules, State, Entry, turn}
+use Rattle.days.specs.Days.{Rules, State, Entry, book_of, turn}
+use Rattle.days.specs.Journals.{entry_with}
+use Rattle.days.specs.Phases.{rules_of}
+use Rattle.pricing.specs.Steps.{listed}
+use Rattle.pricing.specs.Stops.{triggered_orders}
+use Rattle.pricing.specs.declared.listing.Listing.{Listing}
+use Rattle.pricing.specs.declared.quote.Quote.{Quote}
+use Rattle.days.specs.declared.call.Call.TheVariants.{Send, Freeze, Match, Lift}
 use Rattle.days.specs.declared.answer.Answer.{Answer}
 use Rattle.days.specs.declared.answer.Answer.TheVariants.{Held, Refused}
 use Rattle.days.specs.declared.call.Call.{Call}
-
--- the three lists are as long as the answer says, and no longer than an auction can make them
-pub record CountedBy (a : Answer) (ts : List Terms) (fs : List Fill) (rs : List Receipt) : Type 0 where
-  pub stops : length ts ≡ stops_in a
-  pub fills : length fs ≡ fills_in a
-  pub receipts : length rs ≡ receipts_in a
-  pub few_stops : length ts ≤ 256
-  pub few_fills : length fs ≤ 256
-  pub few_receipts : length rs ≤ 256
 
 -- the three lists have at least as many as the answer says, which are no more than an auction can make
 pub record Enough (a : Answer) (ts : List Terms) (fs : List Fill) (rs : List Receipt) : Type 0 where
@@ -37,24 +32,10 @@ pub record Enough (a : Answer) (ts : List Terms) (fs : List Fill) (rs : List Rec
   pub few_fills : length fs ≤ 256
   pub few_receipts : length rs ≤ 256
 
--- an answer that tells of nothing triggered, filled or receipted
-pub record Bare (a : Answer) : Type 0 where
-  pub stops : stops_in a ≡ 0
-  pub fills : fills_in a ≡ 0
-  pub receipts : receipts_in a ≡ 0
-
+-- the answer to an instruction that waits or was refused
 abbrev pub told_waiting : Result (Unit {0}) Refusal → Answer
 told_waiting (Ok u) = Held
 told_waiting (Err e) = Refused e
-
--- the answer to an instruction in a freeze, and what is held then, if it may wait or not
-abbrev pub waited : Result (Instruction Terms) Refusal → Answer
-waited (Ok i) = Held
-waited (Err e) = Refused e
-
-abbrev pub held_with : List (Instruction Terms) → Result (Instruction Terms) Refusal → List (Instruction Terms)
-held_with held (Ok i) = held ++ i ∷ []
-held_with held (Err e) = held
 
 -- a locked stock over the same slots, with as much room as before
 pub record StockKept (l after : WaitingLine (Instruction Order)) : Type 0 where
@@ -66,8 +47,28 @@ pub record Turned (r : Rules) (s : State) (c : Call) (before after : List Entry)
   pub told : after ≡ before ++ (turn r s c).entry ∷ []
   pub state : t ≡ (turn r s c).state
 
--- an instruction in a freeze waits, or is refused
-pub record Waits (g : Grid) (i : Instruction Ticket) (l : WaitingLine (Instruction Order)) (answer : Answer) (after : WaitingLine (Instruction Order)) : Type 0 where
-  pub value : answer ≡ waited (admitted_to (room_of l.slots.now) (held_in l) (checked g i))
-  pub held : held_in after ≡ held_with (held_in l) (admitted_to (room_of l.slots.now) (held_in l) (checked g i))
-  pub kept : StockKept l after
+-- the stops that a call triggers if it is a match that is held
+abbrev pub stops_for : Call → List Terms → List Terms
+stops_for (Send i) ts = []
+stops_for Freeze ts = []
+stops_for (Match q f n) ts = triggered_orders q ts
+stops_for (Lift n) ts = []
+
+abbrev pub stops_told : Option Listing → List Terms
+stops_told None = []
+stops_told (Some l) = listed l
+
+-- so many entries are refused for a match as those of the call are
+abbrev pub SameFault : Grid → WaitingLine (Instruction Order) → List Terms → Quote → ℕ → ℕ → ℕ → ℕ → Type 0
+SameFault g l ts q fills receipts f n = match_fault g (room_of l.slots.now) q fills receipts ts ≡ match_fault g (room_of l.slots.now) q f n ts
+
+-- a call is carried out by the rules from a state: its entry read off its answer and the arrays, the state after it, and grid, slots and capacity as before
+pub record CarriedOut (g : Grid) (room : ℕ) (l : WaitingLine (Instruction Order)) (s : State) (c : Call) (a : Answer) (filled : List Fill) (told : List Receipt) (g_after : Grid) (room_after : ℕ) (l_after : WaitingLine (Instruction Order)) (t : State) : Type 0 where
+  pub entry : entry_with (record { call = c; answer = a }) (stops_for c (book_of s)) filled told ≡ (turn (rules_of g room l) s c).entry
+  pub state : t ≡ (turn (rules_of g room l) s c).state
+  pub stops : stops_in a ≤ length (stops_for c (book_of s))
+  pub fills : fills_in a ≤ length filled
+  pub receipts : receipts_in a ≤ length told
+  pub grid : g_after ≡ g
+  pub kept : StockKept l l_after
+  pub same : room_after ≡ room

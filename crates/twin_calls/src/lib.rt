@@ -1,7 +1,7 @@
 // The calls that the delayed twin of a day makes.
 #![tactic(auto)]
 
-ghost use Rattle.std.specs.Prelude.{◌≡◌, true, false, [], ◌∷◌, ◌++◌, map, take, IfOk, OnOk};
+ghost use Rattle.std.specs.Prelude.{◌≡◌, ◌∷◌, ◌++◌, map, take, IfOk, OnOk};
 ghost use Rattle.days.specs.Delayed.{outside, retold};
 ghost use Rattle.days.specs.Delayed as delayed;
 ghost use Rattle.days.specs.Journals.{told_by};

@@ -1,7 +1,7 @@
 use Rattle.orders.specs.Told.{grid_of}
 use Rattle.days.specs.Journals.{told_by}
 use Rattle.days.proofs.Siding.{side_by_side, by_rules}
-use Rattle.days.proofs.run.run_both.Goals as goal
+use Rattle.days.proofs.run.run_twins.Goals as goal
 
 pub returns : goal.returns
 returns g c =
