@@ -30,14 +30,14 @@ fn one_in(random: &mut Random, many: u32) -> bool {
 }
 
 fn market(random: &mut Random) -> Market {
-    let (lot, class, tick) = GRIDS[(random.below(4) % 4) as usize];
+    let (lot, class, tick) = GRIDS[random.below(4) as usize];
     Market {
         lot,
         class,
         tick,
         base: if one_in(random, 8) { HIGH } else { LOW },
-        book_room: BOOKS[(random.below(4) % 4) as usize],
-        stock_room: STOCKS[(random.below(4) % 4) as usize],
+        book_room: BOOKS[random.below(4) as usize],
+        stock_room: STOCKS[random.below(4) as usize],
     }
 }
 

@@ -12,21 +12,14 @@ use test_orders::terms;
 
 fn order(number: u32, quantity: u32) -> Result<Order, Fail> {
     let kind = Kind::Limit { limit: 3 };
-    let Some(order) = Order::new(terms(number, Side::Sell, kind, quantity)) else {
-        return Err(Fail::new("out of range"));
-    };
-    Ok(order)
+    Order::new(terms(number, Side::Sell, kind, quantity)).ok_or_else(|| Fail::new("out of range"))
 }
 
 // The book holds these numbers with these open quantities, in this sequence.
 fn check_book<B: Book>(rt: &impl Abort, book: &B, expected: &[(u32, u32)]) -> Result<(), Fail> {
     assert_eq!(rt; book.count(), expected.len());
     for (place, (number, quantity)) in expected.iter().enumerate() {
-        let Some(order) = book.order_at(place) else {
-            return Err(Fail::new("no order"));
-        };
-        assert_eq!(rt; order.terms().number, *number);
-        assert_eq!(rt; order.terms().quantity, *quantity);
+        assert_eq!(rt; book.order_at(place), Some(order(*number, *quantity)?));
     }
     assert!(rt; book.order_at(expected.len()).is_none());
     Ok(())
@@ -103,10 +96,7 @@ fn appended_and_taken_out(rt: HostRuntime) -> Result<(), Fail> {
     check_book(&rt, &table, &[(5, 50), (6, 60), (7, 70)])?;
     assert!(rt; table.take_out(9).is_none());
     check_book(&rt, &table, &[(5, 50), (6, 60), (7, 70)])?;
-    let Some(taken) = table.take_out(6) else {
-        return Err(Fail::new("not taken out"));
-    };
-    assert_eq!(rt; taken.terms().quantity, 60);
+    assert_eq!(rt; table.take_out(6), Some(order(6, 60)?));
     check_book(&rt, &table, &[(5, 50), (7, 70)])?;
     table.append(order(8, 80)?)?;
     check_book(&rt, &table, &[(5, 50), (7, 70), (8, 80)])

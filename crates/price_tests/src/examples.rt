@@ -1,11 +1,12 @@
 // The worked examples, and the mistakes that the rules shut out.
-use crate::setting::{book_of, terms, trial};
+use crate::setting::{book_of, trial};
 use orders::refusal::Refusal;
 use orders::settings::Settings;
 use orders::terms::{Kind, Side, Terms};
 use pricing::quote::Quote;
 use pricing::trial::{TrialPrice, trial_price};
 use std::test::Fail;
+use test_orders::terms;
 
 pub(crate) fn quote(bid_volume: u32, ask_volume: u32) -> Quote {
     Quote {

@@ -1,6 +1,6 @@
 // Fills by the rules of priority and pairing.
 use crate::examples::{buy, quote, sell};
-use crate::setting::{book_of, terms};
+use crate::setting::book_of;
 use orders::refusal::Refusal;
 use orders::settings::Settings;
 use orders::terms::{Kind, Side, Terms};
@@ -10,6 +10,7 @@ use settling::fill::Fill;
 use std::alloc::Global;
 use std::process::Abort;
 use std::test::Fail;
+use test_orders::terms;
 
 // What an entry holds before it is written.
 const BLANK: Fill = Fill {

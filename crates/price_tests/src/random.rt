@@ -1,47 +1,33 @@
 // Random small books beside the naive reckonings.
 use crate::fills::check_fills;
 use crate::reckoning::Reckoning;
-use crate::setting::{terms, trial};
+use crate::setting::trial;
 use crate::share_by_share::share_by_share;
 use orders::settings::Settings;
 use orders::terms::{Kind, Side, Terms};
 use pricing::quote::Quote;
 use pricing::trial::TrialPrice;
+use random::Random;
 use std::alloc::Global;
 use std::process::Abort;
 use std::test::Fail;
+use test_orders::terms;
 
-#[derive(Drop)]
-struct Random {
-    state: u32,
-}
-
-impl Random {
-    // A number below `limit`, or 0.
-    fn below(&mut self, limit: u32) -> u32 {
-        self.state = self
-            .state
-            .wrapping_mul(1_664_525)
-            .wrapping_add(1_013_904_223);
-        (self.state >> 8).checked_rem(limit).unwrap_or(0)
-    }
-
-    fn order(&mut self, number: u32, base: u32) -> Terms {
-        let side = if self.below(2) == 0 {
-            Side::Buy
-        } else {
-            Side::Sell
-        };
-        let limit = base.saturating_add(self.below(44));
-        let stop = base.saturating_add(self.below(44));
-        let kind = match self.below(6) {
-            0 => Kind::Market,
-            1 => Kind::StopMarket { stop },
-            2 => Kind::StopLimit { limit, stop },
-            _ => Kind::Limit { limit },
-        };
-        terms(number, side, kind, self.below(9).saturating_add(1))
-    }
+fn random_order(random: &mut Random, number: u32, base: u32) -> Terms {
+    let side = if random.below(2) == 0 {
+        Side::Buy
+    } else {
+        Side::Sell
+    };
+    let limit = base.saturating_add(random.below(44));
+    let stop = base.saturating_add(random.below(44));
+    let kind = match random.below(6) {
+        0 => Kind::Market,
+        1 => Kind::StopMarket { stop },
+        2 => Kind::StopLimit { limit, stop },
+        _ => Kind::Limit { limit },
+    };
+    terms(number, side, kind, random.up_to(9))
 }
 
 // A quote of a width up to 40.
@@ -65,7 +51,7 @@ fn random_quote(random: &mut Random, tick: u32) -> Quote {
 fn random_orders(heap: Global, random: &mut Random) -> Result<Vec<Terms>, Fail> {
     let mut orders = Vec::new(heap);
     for number in 0..random.below(13) {
-        orders.push(random.order(number.saturating_add(1), 981))?;
+        orders.push(random_order(random, number.saturating_add(1), 981))?;
     }
     Ok(orders)
 }
@@ -109,7 +95,7 @@ fn one_auction(rt: &impl Abort, heap: Global, random: &mut Random) -> Result<(),
 
 #[test]
 fn trial_price_is_the_reckoned_price(rt: HostRuntime) -> Result<(), Fail> {
-    let mut random = Random { state: 5 };
+    let mut random = Random::new(5);
     for _ in 0..4_000 {
         one_price(&rt, rt.alloc(), &mut random)?;
     }
@@ -118,7 +104,7 @@ fn trial_price_is_the_reckoned_price(rt: HostRuntime) -> Result<(), Fail> {
 
 #[test]
 fn fills_are_those_share_by_share(rt: HostRuntime) -> Result<(), Fail> {
-    let mut random = Random { state: 7 };
+    let mut random = Random::new(7);
     for _ in 0..2_000 {
         one_auction(&rt, rt.alloc(), &mut random)?;
     }

@@ -2,22 +2,12 @@
 use book::{Book, Store};
 use orders::order::Order;
 use orders::settings::Settings;
-use orders::terms::{Kind, Side, Terms};
+use orders::terms::Terms;
 use pricing::quote::Quote;
 use pricing::trial::{TrialPrice, trial_price};
 use row_table::table::RowTable;
 use std::alloc::Global;
 use std::test::Fail;
-
-pub(crate) fn terms(number: u32, side: Side, kind: Kind, quantity: u32) -> Terms {
-    Terms {
-        number,
-        participant: 7,
-        side,
-        kind,
-        quantity,
-    }
-}
 
 pub(crate) fn book_of(heap: Global, orders: &[Terms]) -> Result<RowTable, Fail> {
     let mut book = RowTable::new(heap, 256)?;

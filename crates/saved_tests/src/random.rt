@@ -1,6 +1,7 @@
 // Random bytes, random files and damaged files, beside the decoder written apart.
 use crate::entry::{Entry, file, saved};
-use crate::setting::{Random, agrees, good_entries};
+use crate::setting::{agrees, good_entries};
+use random::Random;
 use std::alloc::Global;
 use std::test::Fail;
 
@@ -38,15 +39,15 @@ fn random_entry(random: &mut Random, place: u32) -> Entry {
         quantity: if odd == 1 {
             5
         } else {
-            random.below(100).saturating_add(1).saturating_mul(10)
+            random.up_to(100).saturating_mul(10)
         },
         limit: if (kind % 2 == 1) != (odd == 2) {
-            random.below(100).saturating_add(1).saturating_mul(10)
+            random.up_to(100).saturating_mul(10)
         } else {
             0
         },
         stop: if (kind / 2 == 1) != (odd == 3) {
-            random.below(100).saturating_add(1).saturating_mul(10)
+            random.up_to(100).saturating_mul(10)
         } else {
             0
         },
@@ -108,7 +109,7 @@ fn one_byte_damaged(rt: HostRuntime) -> Result<(), Fail> {
         let mut bytes = saved(rt.alloc(), entries.as_slice())?;
         for _ in 0..12 {
             if let Some(byte) = bytes.get_mut(place) {
-                *byte = random.byte();
+                *byte = random.below(256) as u8;
             }
             let _ = agrees(&rt, rt.alloc(), bytes.as_slice())?;
         }

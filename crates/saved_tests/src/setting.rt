@@ -1,4 +1,4 @@
-// What the tests share: a lot of 10 and a tick of 10, good entries, books as entries, and numbers that look random.
+// What the tests share: a lot of 10 and a tick of 10, good entries, books as entries.
 use crate::entry::Entry;
 use crate::reckoning::{Fault, judge};
 use book::Book;
@@ -81,29 +81,5 @@ pub(crate) fn agrees(
             assert_eq!(rt; accepted.map(|_| ()), expected);
             Ok(expected)
         }
-    }
-}
-
-#[derive(Drop)]
-pub(crate) struct Random {
-    state: u32,
-}
-
-impl Random {
-    pub(crate) fn new(start: u32) -> Random {
-        Random { state: start }
-    }
-
-    // A number below `limit`, or 0.
-    pub(crate) fn below(&mut self, limit: u32) -> u32 {
-        self.state = self
-            .state
-            .wrapping_mul(1_664_525)
-            .wrapping_add(1_013_904_223);
-        (self.state >> 8).checked_rem(limit).unwrap_or(0)
-    }
-
-    pub(crate) fn byte(&mut self) -> u8 {
-        (self.below(256) % 256) as u8
     }
 }

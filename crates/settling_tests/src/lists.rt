@@ -7,9 +7,7 @@ use std::test::Fail;
 
 pub(crate) fn enter<S: Store>(store: &mut S, orders: &[Terms]) -> Result<(), Fail> {
     for terms in orders {
-        let Some(order) = Order::new(*terms) else {
-            return Err(Fail::new("out of range"));
-        };
+        let order = Order::new(*terms).ok_or_else(|| Fail::new("out of range"))?;
         store.append(order)?;
     }
     Ok(())
@@ -22,10 +20,7 @@ pub(crate) fn check_holds<B: Book>(
 ) -> Result<(), Fail> {
     assert_eq!(rt; book.count(), orders.len());
     for (place, terms) in orders.iter().enumerate() {
-        let Some(order) = book.order_at(place) else {
-            return Err(Fail::new("no order at a place"));
-        };
-        assert_eq!(rt; order.terms(), *terms);
+        assert_eq!(rt; book.order_at(place), Order::new(*terms));
     }
     Ok(())
 }

@@ -17,9 +17,9 @@ fn append<A: Store, B: Store>(
     number: u32,
     quantity: u32,
 ) -> Result<(), Fail> {
-    let Some(order) = Order::new(terms(number, Side::Buy, Kind::Market, quantity)) else {
-        return Err(Fail::new("out of range"));
-    };
+    let order = Order::new(terms(number, Side::Buy, Kind::Market, quantity)).ok_or_else(
+        || Fail::new("out of range"),
+    )?;
     assert_eq!(rt; a.append(order), b.append(order));
     Ok(())
 }
