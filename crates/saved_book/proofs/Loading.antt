@@ -26,7 +26,7 @@ use Rattle.book.specs.Lists.{distinct, Sound}
 use Rattle.saved_book.specs.Calls.{on_grid, prices_on_tick, LoadsBack}
 use Rattle.saved_book.specs.Decoding.{four_at, ticket_of, ticket_at, checked_record, record_at, joined_by, orders_upto, laid_out, decode}
 use Rattle.saved_book.specs.Encoding.{number_bytes, record_bytes, encode}
-use Rattle.saved_book.specs.Steps.{fits_its_bytes}
+use Rattle.saved_book.specs.Steps.{FitsItsBytes}
 use Rattle.saved_book.specs.declared.fault.RecordFault.TheVariants.{Refused}
 use Rattle.saved_book.proofs.Chunks.{length_joined, drop_joined}
 use Rattle.saved_book.proofs.Digits.{two_back, four_back, four_from}
@@ -155,9 +155,9 @@ module _ (g : Grid) (ts : List Terms) (sound : Sound ts) (ok : AllByRecursion Fi
       ∙ ap Ok (take_all (length ts) ts (omega arith))
 
 -- the numbers of an order that is in range fit their bytes, if its number and its participant do
-all_fit : (ts : List Terms) → AllByRecursion fits_its_bytes ts → AllByRecursion (λ t. in_range t ≡ true) ts → AllByRecursion Fits ts
+all_fit : (ts : List Terms) → AllByRecursion FitsItsBytes ts → AllByRecursion (λ t. in_range t ≡ true) ts → AllByRecursion Fits ts
 all_fit [] n r = tt
 all_fit (t ∷ ts) n r = (fits t n.0.0 n.0.1 r.0, all_fit ts n.1 r.1)
 
-pub loads_back : (ts : List Terms) → Sound ts → AllByRecursion fits_its_bytes ts → LoadsBack ts
+pub loads_back : (ts : List Terms) → Sound ts → AllByRecursion FitsItsBytes ts → LoadsBack ts
 loads_back ts s n g on = decode_encode g ts s (all_fit ts n s.ranged) on

@@ -25,5 +25,5 @@ abbrev pub head_count : List ℕ → Option ℕ
 head_count bs = cond (laid_out bs) (Some (four_at bs 0)) None
 
 -- the number and the participant of an order fit their bytes
-abbrev pub fits_its_bytes : Terms → Type 0
-fits_its_bytes t = (t.number < 2 ^ 32) × (t.participant < 2 ^ 16)
+abbrev pub FitsItsBytes : Terms → Type 0
+FitsItsBytes t = (t.number < 2 ^ 32) × (t.participant < 2 ^ 16)

@@ -1,10 +1,10 @@
 // A book written as bytes.
 ghost use Rattle.std.specs.Prelude.{◌≡◌, ℕ, ◌+◌, ◌*◌, ◌≤◌, List, ◌++◌, length};
 ghost use Rattle.std.specs.List.{flat_map, AllByRecursion};
-ghost use Rattle.saved_book.specs.Calls.{Save};
 ghost use Rattle.orders.specs.declared.terms.Terms.{Terms};
+ghost use Rattle.saved_book.specs.Calls.{Save};
 ghost use Rattle.saved_book.specs.Encoding.{four, number_bytes, record_bytes};
-ghost use Rattle.saved_book.specs.Steps.{laid, fits_its_bytes};
+ghost use Rattle.saved_book.specs.Steps.{laid, FitsItsBytes};
 
 use crate::bytes::put;
 use crate::records::record_bytes;
@@ -56,7 +56,7 @@ impl Part<16> for Record {
 fn put_each<P: Part<N>, const N: usize, B: Book>(book: &B, out: &mut [u8], at: usize)
     requires { at + N * length (B.Book.orders book.now) ≤ length out.old }
     ensures after { out.new ≡ laid at (flat_map P.Part.part (B.Book.orders book.now)) out.old }
-    ensures fit { AllByRecursion fits_its_bytes (B.Book.orders book.now) }
+    ensures fit { AllByRecursion FitsItsBytes (B.Book.orders book.now) }
 {
     // chunks of a lent slice do not tell a proof what is written to them, so the end is kept
     let mut end = at;

@@ -30,8 +30,8 @@ pub(crate) fn good(number: u32) -> Entry {
 
 pub(crate) fn good_entries(heap: Global, count: u32) -> Result<Vec<Entry>, Fail> {
     let mut made = Vec::new(heap);
-    for number in 0..count {
-        made.push(good(number.saturating_add(1)))?;
+    for number in 1..=count {
+        made.push(good(number))?;
     }
     Ok(made)
 }

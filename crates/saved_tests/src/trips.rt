@@ -21,20 +21,17 @@ fn check_saved<B: Book>(rt: &impl Abort, heap: Global, book: &B, bytes: &[u8]) -
         let length = bytes.len().saturating_add(spare);
         let mut out = vec![in heap; 170u8; length]?;
         assert_eq!(rt; save(book, &mut out), Ok(bytes.len()));
-        for (place, byte) in out.as_slice().iter().enumerate() {
-            let expected = if place < bytes.len() {
-                bytes[place]
-            } else {
-                170
-            };
-            assert_eq!(rt; *byte, expected);
-        }
+        assert!(rt; out.as_slice().starts_with(bytes));
+        assert!(rt;
+            out.as_slice()
+                .iter()
+                .skip(bytes.len())
+                .all(|byte| *byte == 170)
+        );
     }
     let mut short = vec![in heap; 170u8; bytes.len().saturating_sub(1)]?;
     assert_eq!(rt; save(book, &mut short), Err(Refusal::BufferShort));
-    for byte in short.as_slice() {
-        assert_eq!(rt; *byte, 170);
-    }
+    assert!(rt; short.as_slice().iter().all(|byte| *byte == 170));
     Ok(())
 }
 
