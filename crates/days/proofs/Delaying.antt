@@ -1,5 +1,5 @@
 -- A day and its delayed twin.
-use Rattle.std.proofs.Common.{◌≡◌, ℕ, Bool, true, false, cond, eqb, List, [], ◌∷◌, ◌++◌, length, Some, None, Ok, Err, Option, Result, sym, refl, ap, ◌∙◌, subst, arith}
+use Rattle.std.proofs.Common.{◌≡◌, ℕ, Bool, true, false, cond, eqb, List, [], ◌∷◌, ◌++◌, length, Some, None, Ok, Err, Option, Result, sym, refl, ap, ◌∙◌, subst}
 use Rattle.orders.specs.Checks.{checked}
 use Rattle.orders.specs.Ticks.{Grid}
 use Rattle.orders.specs.declared.instruction.Instruction.{Instruction}
@@ -49,12 +49,12 @@ pending_push g (x ∷ is) [] i j p e = absurd p
 pending_push g (x ∷ is) (y ∷ js) i j p e = (p.0, pending_push g is js i j p.1 e)
 
 not_full : (b : Bool) (x : Result (Instruction Terms) Refusal) (j : Instruction Terms) → cond b (Err LockedStockFull) x ≡ Ok j → x ≡ Ok j
-not_full true x j h = let z : ◌≡◌ {A = ℕ} 0 1 = cc in absurd (omega arith)
+not_full true x j h = cc
 not_full false x j h = h
 
 -- what is admitted to the locked stock is what was checked
 admitted_checked : (stock : ℕ) (held : List (Instruction Terms)) (x : Result (Instruction Terms) Refusal) (j : Instruction Terms) → admitted_to stock held x ≡ Ok j → x ≡ Ok j
-admitted_checked stock held (Err e) j h = let z : ◌≡◌ {A = ℕ} 0 1 = cc in absurd (omega arith)
+admitted_checked stock held (Err e) j h = cc
 admitted_checked stock held (Ok i) j h = not_full (eqb (length held) stock) (Ok i) j h
 
 -- what was held, sent on its own: each answer is the one that the receipt tells

@@ -54,6 +54,7 @@ stops_for Freeze ts = []
 stops_for (Match q f n) ts = triggered_orders q ts
 stops_for (Lift n) ts = []
 
+-- the orders of a listing, if there is one
 abbrev pub stops_told : Option Listing → List Terms
 stops_told None = []
 stops_told (Some l) = listed l

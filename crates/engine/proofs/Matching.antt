@@ -1,5 +1,5 @@
 -- A match by its fault.
-use Rattle.std.proofs.Common.{◌≡◌, ℕ, ◌<◌, ◌≤◌, List, length, Some, None, Err, Result, sym, refl, subst, arith}
+use Rattle.std.proofs.Common.{◌≡◌, ℕ, ◌<◌, ◌≤◌, List, length, Some, None, Err, Result, sym, refl, subst}
 use Rattle.std.proofs.lemmas.Bool.{lt-ltb, le-ltb}
 use Rattle.orders.specs.Ticks.{Grid}
 use Rattle.orders.specs.declared.instruction.Instruction.{Instruction}
@@ -30,7 +30,7 @@ module _ (g : Grid) (q : Quote) (room : ℕ) (l : WaitingLine (Instruction Order
         slots = refl;
         lent = refl;
         same = refl;
-        lawful = λ n. let z : ◌≡◌ {A = ℕ} 0 1 = cc in absurd (omega arith);
+        lawful = λ n. cc;
       }
 
   pub by_quote : (r : Result Matched Refusal) (e : Refusal) → r ≡ Err e → quote_fault g q ≡ Some e → MatchHeld g q room l ts fills receipts r room l ts fills receipts

@@ -60,7 +60,12 @@ fn in_freeze(
             Ok(Some(held))
         }
         Answer::Matched(_) | Answer::Lifted { .. } => {
-            end(twin, held.as_slice(), note.call, note.answer.counts().receipts)?;
+            end(
+                twin,
+                held.as_slice(),
+                note.call,
+                note.answer.counts().receipts,
+            )?;
             Ok(None)
         }
         Answer::Done(_) | Answer::Frozen | Answer::Refused(_) => {
