@@ -1,5 +1,5 @@
 -- What the steps of the code give.
-use Rattle.std.specs.Prelude.{◌≡◌, ℕ, ◌≤◌, List, [], ◌∷◌, ◌++◌, length, Some, None, Ok, Err, Option, Result}
+use Rattle.std.specs.Prelude.{◌≡◌, ℕ, ◌≤◌, List, [], ◌∷◌, ◌++◌, length, Ok, Err, Result}
 use Rattle.orders.specs.Ticks.{Grid}
 use Rattle.orders.specs.declared.instruction.Instruction.{Instruction}
 use Rattle.orders.specs.declared.refusal.Refusal.{Refusal}
@@ -14,9 +14,7 @@ use Rattle.days.specs.Counts.{stops_in, fills_in, receipts_in}
 use Rattle.days.specs.Days.{Rules, State, Entry, book_of, turn}
 use Rattle.days.specs.Journals.{entry_with}
 use Rattle.days.specs.Phases.{rules_of}
-use Rattle.pricing.specs.Steps.{listed}
 use Rattle.pricing.specs.Stops.{triggered_orders}
-use Rattle.pricing.specs.declared.listing.Listing.{Listing}
 use Rattle.pricing.specs.declared.quote.Quote.{Quote}
 use Rattle.days.specs.declared.call.Call.TheVariants.{Send, Freeze, Match, Lift}
 use Rattle.days.specs.declared.answer.Answer.{Answer}
@@ -53,11 +51,6 @@ stops_for (Send i) ts = []
 stops_for Freeze ts = []
 stops_for (Match q f n) ts = triggered_orders q ts
 stops_for (Lift n) ts = []
-
--- the orders of a listing, if there is one
-abbrev pub stops_told : Option Listing → List Terms
-stops_told None = []
-stops_told (Some l) = listed l
 
 -- so many entries are refused for a match as those of the call are
 abbrev pub SameFault : Grid → WaitingLine (Instruction Order) → List Terms → Quote → ℕ → ℕ → ℕ → ℕ → Type 0

@@ -13,7 +13,7 @@ ghost use Rattle.engine.specs.PreCalls.{grid_under};
 ghost use Rattle.days.specs.Days.{in_pre_call, in_freeze};
 ghost use Rattle.days.specs.Journals.{told_by, has_room};
 ghost use Rattle.days.specs.Phases.{grid_in, state_of, rules_of};
-ghost use Rattle.days.specs.Steps.{StockKept, Turned, CarriedOut, SameFault, stops_for, stops_told};
+ghost use Rattle.days.specs.Steps.{StockKept, Turned, CarriedOut, SameFault, stops_for};
 ghost use Rattle.days.specs.declared.call.Call.TheVariants.{Match, Lift};
 
 use crate::answer::Answer;
@@ -21,6 +21,7 @@ use crate::call::Call;
 use crate::journal::Journal;
 use crate::note::Note;
 use crate::phase::Phase;
+use arrayvec::ArrayVec;
 use book::{Book, Store};
 use engine::frozen::Frozen;
 use engine::pre_call::PreCall;
@@ -29,8 +30,8 @@ use locked_stock::hold::LockedStock;
 use locked_stock::receipt::Receipt;
 use orders::capacity::MOST;
 use orders::refusal::Refusal;
+use orders::terms::Terms;
 use pricing::gather::triggered_orders;
-use pricing::listing::Listing;
 use pricing::quote::Quote;
 use settling::fill::Fill;
 
@@ -51,12 +52,12 @@ const NO_RECEIPT: Receipt = Receipt {
 };
 
 // The stops that a call triggers if it is a match that is held.
-fn stops_for<B: Book>(book: &B, call: Call) -> Option<Listing>
-    ensures { stops_told result ≡ stops_for call (B.Book.orders book.now) }
+fn stops_for<B: Book>(book: &B, call: Call) -> ArrayVec<Terms, MOST>
+    ensures { result.items ≡ stops_for call (B.Book.orders book.now) }
 {
     match call {
-        Call::Match { quote, .. } => Some(triggered_orders(book, quote)),
-        Call::Send(_) | Call::Freeze | Call::Lift { .. } => None,
+        Call::Match { quote, .. } => triggered_orders(book, quote),
+        Call::Send(_) | Call::Freeze | Call::Lift { .. } => ArrayVec::new(),
     }
 }
 
@@ -183,9 +184,6 @@ pub(crate) fn turn<S: Store>(
     let stops = stops_for(store, call);
     let (phase, answer) = carry_out(phase, store, stock, call, &mut filled, &mut told);
     let note = Note { call, answer };
-    match &stops {
-        Some(stops) => journal.note(note, stops.as_slice(), &filled, &told),
-        None => journal.note(note, &[], &filled, &told),
-    }
+    journal.note(note, &stops, &filled, &told);
     phase
 }
