@@ -69,6 +69,7 @@ pub(crate) fn cross<B: Book>(book: &B, quote: MatchingQuote) -> Crossing
         staying: mut orders,
         triggered,
     } = part(book, quote.quote);
+    // there is room: both lists together are as long as the book
     orders.try_extend_from_slice(triggered.as_slice()).unwrap();
     Crossing {
         quote,
