@@ -1,10 +1,10 @@
 -- Buyers and sellers may change places: the pairs stay the same.
-use Rattle.std.proofs.Common.{◌≡◌, ℕ, zero, suc, ◌+◌, ◌-◌, ◌<◌, ◌≤◌, Bool, eqb, ◌⊎◌, List, [], ◌∷◌, ◌++◌, map, length, sum_by, sym, refl, ap, ◌∙◌, inl, inr, ⊎_elim, arith}
-use Rattle.std.proofs.lemmas.Bool.{cases_order, eq-eqb, ne_eqb, cond-true, cond-false}
+use Rattle.std.proofs.Common.{◌≡◌, ℕ, zero, suc, ◌+◌, ◌-◌, ◌<◌, ◌≤◌, Bool, false, eqb, ◌⊎◌, List, [], ◌∷◌, ◌++◌, map, length, sum_by, sym, ap, ◌∙◌, inl, inr, ⊎_elim, arith}
+use Rattle.std.proofs.lemmas.Bool.{cases_order, ne_eqb, le-leb, lt-leb}
 use Rattle.std.specs.List.{AllByRecursion}
 use Rattle.settling.specs.declared.fill.Fill.{Fill}
 use Rattle.pairing.proofs.Serving.{bought_by, sold_by, bought_in_turn}
-use Rattle.pairing.proofs.Turning.{interest, lessened, turn, sated, no_sells}
+use Rattle.pairing.proofs.Turning.{interest, sated, no_sells}
 use Rattle.pairing.proofs.Wanting.{wanted_by, sum_by_map}
 use Rattle.pairing.specs.Pairs.{a_fill, paired}
 use Rattle.pairing.specs.declared.interest.Interest.{Interest}
@@ -14,20 +14,14 @@ flipped f = a_fill f.price f.seller f.buyer f.quantity
 
 -- one pair, by which of the two is the smaller
 module _ (p : ℕ) (b : Interest) (bs : List Interest) (s : Interest) (ss : List Interest) (pos : 0 < b.quantity) where
+  some : eqb b.quantity 0 ≡ false
+  some = ne_eqb b.quantity 0 (λ e. omega arith)
+
   less_buy : b.quantity < s.quantity → paired p (b ∷ bs) (s ∷ ss) ≡ a_fill p b.number s.number b.quantity ∷ paired p bs (interest s.number (s.quantity - b.quantity) ∷ ss)
-  less_buy h =
-      let x = b.quantity in
-      let nothing : x - x ≡ 0 = omega arith in
-      turn p b.number x bs s ss x pos (omega arith)
-      ∙ ap (λ l. a_fill p b.number s.number x ∷ paired p (interest b.number (x - x) ∷ bs) l) (cond-false (eqb x s.quantity) ss (lessened x (s ∷ ss)) (ne_eqb x s.quantity (λ e. omega arith)))
-      ∙ ap (λ r. a_fill p b.number s.number x ∷ paired p (interest b.number r ∷ bs) (lessened x (s ∷ ss))) nothing
-      ∙ ap (λ l. a_fill p b.number s.number x ∷ l) (sated p b.number bs (lessened x (s ∷ ss)))
+  less_buy h = rw (some, lt-leb s.quantity b.quantity h)
 
   whole_sell : s.quantity ≤ b.quantity → paired p (b ∷ bs) (s ∷ ss) ≡ a_fill p b.number s.number s.quantity ∷ paired p (interest b.number (b.quantity - s.quantity) ∷ bs) ss
-  whole_sell h =
-      let x = s.quantity in
-      turn p b.number b.quantity bs s ss x pos (omega arith)
-      ∙ ap (λ l. a_fill p b.number s.number x ∷ paired p (interest b.number (b.quantity - x) ∷ bs) l) (cond-true (eqb x x) ss (lessened x (s ∷ ss)) (eq-eqb x x refl))
+  whole_sell h = rw (some, le-leb s.quantity b.quantity h)
 
   -- the two are equal
   same_both : b.quantity ≡ s.quantity → paired p (b ∷ bs) (s ∷ ss) ≡ a_fill p b.number s.number s.quantity ∷ paired p bs ss

@@ -1,11 +1,11 @@
 -- The loops that pair: what is written, and what is still to come, give the same array in the end.
-use Rattle.std.proofs.Common.{◌≡◌, ℕ, ◌+◌, ◌-◌, ◌<◌, ◌≤◌, min, false, cond, eqb, leb, List, [], ◌∷◌, ◌++◌, length, get_or, take, drop, set, sum_by, sym, refl, ap, ◌∙◌, subst, ⊎_elim, arith}
+use Rattle.std.proofs.Common.{◌≡◌, ℕ, ◌+◌, ◌-◌, ◌<◌, ◌≤◌, min, false, cond, eqb, List, [], ◌∷◌, ◌++◌, length, get_or, take, drop, set, sum_by, sym, refl, ap, ◌∙◌, subst, ⊎_elim, arith}
 use Rattle.std.proofs.lemmas.List.{append_assoc, length-set, take_more_set, take-append-drop, drop-set-lt, at_drop_more}
 use Rattle.std.proofs.lemmas.List.Sums.{sum_by-cons}
 use Rattle.std.proofs.lemmas.Bool.{cases_lt, eq-eqb, ne_eqb, le-leb, lt-leb, cond-true, cond-false, eqb-true, eqb-false, cond_both}
 use Rattle.std.specs.List.{AllByRecursion}
 use Rattle.settling.specs.declared.fill.Fill.{Fill}
-use Rattle.pairing.specs.Pairs.{Served, a_fill, served, paired}
+use Rattle.pairing.specs.Pairs.{a_fill, paired}
 use Rattle.pairing.specs.Steps.{wanted, Written}
 use Rattle.pairing.specs.declared.interest.Interest.{Interest}
 
@@ -66,27 +66,14 @@ sells_after x s ss = cond (eqb x s.quantity) ss (lessened x (s ∷ ss))
 -- one pair
 pub turn : (p b w : ℕ) (bs : List Interest) (s : Interest) (ss : List Interest) (x : ℕ) → 0 < w → x ≡ min w s.quantity → paired p (interest b w ∷ bs) (s ∷ ss) ≡ a_fill p b s.number x ∷ paired p (interest b (w - x) ∷ bs) (sells_after x s ss)
 turn p b w bs s ss x pos e =
+    let some : eqb w 0 ≡ false = ne_eqb w 0 (λ k. omega arith) in
     ⊎_elim
-    (λ lt. let same : w ≡ x = omega arith in
-    let nothing : 0 ≡ w - w = omega arith in
-    step (cond-false (eqb w 0) _ _ some ∙ cond-false (leb s.quantity w) _ _ (lt-leb s.quantity w lt))
-    ∙ ap (λ r. a_fill p b s.number w ∷ paired p (interest b r ∷ bs) (lessened w (s ∷ ss))) nothing
-    ∙ ap (λ l. a_fill p b s.number w ∷ paired p (interest b (w - w) ∷ bs) l) (sym (cond-false (eqb w s.quantity) ss (lessened w (s ∷ ss)) (ne_eqb w s.quantity (λ k. omega arith))))
-    ∙ ap after same)
-    (λ le. let same : s.quantity ≡ x = omega arith in
-    step (cond-false (eqb w 0) _ _ some ∙ cond-true (leb s.quantity w) _ _ (le-leb s.quantity w le))
-    ∙ ap (λ l. a_fill p b s.number s.quantity ∷ paired p (interest b (w - s.quantity) ∷ bs) l) (sym (cond-true (eqb s.quantity s.quantity) ss (lessened s.quantity (s ∷ ss)) (eq-eqb s.quantity s.quantity refl)))
-    ∙ ap after same)
+    (λ lt. let same : x ≡ w = omega arith in
+    let nothing : w - w ≡ 0 = omega arith in
+    let less : eqb w s.quantity ≡ false = ne_eqb w s.quantity (λ k. omega arith) in
+    rw (same, some, lt-leb s.quantity w lt, less, nothing))
+    (λ le. let same : x ≡ s.quantity = omega arith in rw (same, some, le-leb s.quantity w le, eq-eqb s.quantity s.quantity refl))
     (cases_lt w s.quantity)
-  where
-    some : eqb w 0 ≡ false
-    some = ne_eqb w 0 (λ k. omega arith)
-
-    after : ℕ → List Fill
-    after y = a_fill p b s.number y ∷ paired p (interest b (w - y) ∷ bs) (sells_after y s ss)
-
-    step : {v : Served} → served p b w (s ∷ ss) ≡ v → paired p (interest b w ∷ bs) (s ∷ ss) ≡ v.fills ++ paired p bs v.left
-    step k = ap (λ v. v.fills ++ paired p bs v.left) k
 
 -- so many shares are left, if the buyer at hand wants w more; every other interest wants one at least
 pub record Going (w : ℕ) (rest ss : List Interest) (left : ℕ) : Type 0 where
