@@ -2,7 +2,6 @@ mod Filters
 mod Running
 pub mod Fairness
 pub mod Settling
-pub mod Walking
 mod Parting
 pub mod Bounding
 pub mod Readying
