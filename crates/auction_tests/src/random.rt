@@ -7,10 +7,10 @@ use orders::refusal::Refusal;
 use orders::terms::{OrderType, Side};
 use orders::ticket::Ticket;
 use pricing::quote::Quote;
-use random::Random;
 use std::alloc::Global;
 use std::process::Abort;
 use std::test::Fail;
+use test_random::Random;
 
 // Lots, tick classes and their ticks.
 const GRIDS: [(u16, u32, u32); 4] = [(1, 0, 1), (7, 2, 5), (10, 3, 10), (100, 5, 50)];

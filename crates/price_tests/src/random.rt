@@ -7,11 +7,11 @@ use orders::settings::Settings;
 use orders::terms::{Kind, Side, Terms};
 use pricing::quote::Quote;
 use pricing::trial::TrialPrice;
-use random::Random;
 use std::alloc::Global;
 use std::process::Abort;
 use std::test::Fail;
 use test_orders::terms;
+use test_random::Random;
 
 fn random_order(random: &mut Random, number: u32, base: u32) -> Terms {
     let side = if random.below(2) == 0 {

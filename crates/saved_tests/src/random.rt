@@ -1,9 +1,9 @@
 // Random bytes, random files and damaged files, beside the decoder written apart.
 use crate::entry::{Entry, file, saved};
 use crate::setting::{agrees, good_entries};
-use random::Random;
 use std::alloc::Global;
 use std::test::Fail;
+use test_random::Random;
 
 // Up to 130 bytes, most of them small.
 fn random_bytes(heap: Global, random: &mut Random) -> Result<Vec<u8>, Fail> {

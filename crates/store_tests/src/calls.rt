@@ -4,11 +4,11 @@ use book::{Book, Store};
 use chain_table::table::ChainTable;
 use orders::order::Order;
 use orders::terms::{Kind, Side};
-use random::Random;
 use row_table::table::RowTable;
 use std::process::Abort;
 use std::test::Fail;
 use test_orders::terms;
+use test_random::Random;
 
 fn append<A: Store, B: Store>(
     rt: &impl Abort,

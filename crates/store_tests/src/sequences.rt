@@ -6,10 +6,10 @@ use engine::pre_call::PreCall;
 use orders::settings::Settings;
 use orders::terms::{OrderType, Side};
 use orders::ticket::Ticket;
-use random::Random;
 use row_table::table::RowTable;
 use std::process::Abort;
 use std::test::Fail;
+use test_random::Random;
 
 fn ticket(random: &mut Random, numbers: u32) -> Ticket {
     let order_type = match random.below(4) {

@@ -2,7 +2,7 @@
 #![tactic(auto)]
 
 ghost use Rattle.std.specs.Prelude.{◌≡◌, ◌+◌};
-ghost use Rattle.random.specs.Draws.{next_state, drawn};
+ghost use Rattle.test_random.specs.Draws.{next_state, drawn};
 
 // A linear congruential generator; the lowest byte of its state is never shown.
 #[derive(Drop)]
