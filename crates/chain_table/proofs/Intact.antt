@@ -1,6 +1,7 @@
 -- What holds of a table, with its rows in use and its free rows as lists.
-use Rattle.std.specs.Prelude.{◌≡◌, ℕ, ◌+◌, ◌-◌, ◌<◌, ◌≤◌, true, List, ◌∷◌, ◌++◌, map, length, vec_len, vec_capacity, ◌==◌, refl}
-use Rattle.std.proofs.Common.{⊎_elim, sym, ap, ◌∙◌, arith}
+use Rattle.std.specs.Prelude.{◌≡◌, ℕ, ◌+◌, ◌-◌, ◌<◌, ◌≤◌, true, List, ◌∷◌, ◌++◌, map, length, vec_len, vec_capacity, ◌==◌, slice_index_or, refl}
+use Rattle.std.proofs.ByRecursion.{All-get_or}
+use Rattle.std.proofs.Common.{⊎_elim, sym, ap, ◌∙◌, add-one, arith}
 use Rattle.std.proofs.lemmas.List.{length-map}
 use Rattle.std.proofs.lemmas.Bool.{or_cases, eqb-true}
 use Rattle.orders.specs.declared.terms.Terms.{Terms}
@@ -13,7 +14,7 @@ use Rattle.chain_table.specs.declared.chain.Chain.{Chain}
 use Rattle.chain_table.specs.declared.table.ChainTable.{ChainTable}
 use Rattle.chain_table.proofs.Indices.{all_parts, all_among, Below, from_below, to_below}
 use Rattle.chain_table.specs.Kept.{Fields, length_walk, fields_kept}
-use Rattle.chain_table.proofs.Walks.{Linked, from_linked, to_linked, walk_linked, last_among}
+use Rattle.chain_table.proofs.Walks.{Linked, from_linked, to_linked, walk_linked, last_among, first_of, step_of}
 
 -- the rows xs are in use and tell ts, and the rows sp are free
 pub record Intact (c : Chain) (count free capacity : ℕ) (xs sp : List ℕ) (ts : List Terms) : Type 0 where
@@ -91,3 +92,19 @@ module _ {c : Chain} {count free capacity : ℕ} {ts : List Terms} (h : Holding 
 -- a table tells as many orders as it counts
 pub rows_length : (t : ChainTable) → length (rows_of t) ≡ t.count
 rows_length t = length-map (path_of t) (terms_at t.chain) ∙ (opened t).long
+
+-- a table as it stands
+pub whole : (t : ChainTable) → Holding t.chain t.count (spot t.free) t.capacity (rows_of t)
+whole t = record { used = path_of t; spare = free_rows t.chain (spot t.free) t.count; intact = opened t }
+
+-- along the path of a table: its first row, that each is a row, and the next of each
+pub path_start : (t : ChainTable) → next t.chain 256 ≡ slice_index_or (path_of t) 0 256
+path_start t = first_of (next t.chain) (prev t.chain) 256 (path_of t) 256 (opened t).link
+
+pub path_row : (t : ChainTable) (k : ℕ) → k < t.count → slice_index_or (path_of t) k 256 < vec_len t.chain.rows
+path_row t k h = All-get_or (λ i. i < vec_len t.chain.rows) (path_of t) k 256 (omega (arith, (opened t).long)) (below (opened t))
+
+pub path_step : (t : ChainTable) (k : ℕ) → k < t.count → next t.chain (slice_index_or (path_of t) k 256) ≡ slice_index_or (path_of t) (k + 1) 256
+path_step t k h =
+    step_of (next t.chain) (prev t.chain) 256 (path_of t) 256 k (omega (arith, (opened t).long)) (opened t).link
+    ∙ ap (λ j. slice_index_or (path_of t) j 256) (sym (add-one k))

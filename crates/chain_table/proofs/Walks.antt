@@ -1,6 +1,6 @@
 -- Chains of indices, by the functions from an index to the next and to the one before.
-use Rattle.std.specs.Prelude.{◌≡◌, ℕ, zero, suc, true, false, ◌&&◌, List, [], ◌∷◌, ◌++◌, map, length, ◌==◌, ◌≢◌, refl}
-use Rattle.std.proofs.Common.{sym, ap, subst, ◌∙◌}
+use Rattle.std.specs.Prelude.{◌≡◌, ℕ, zero, suc, ◌<◌, true, false, ◌&&◌, List, [], ◌∷◌, ◌++◌, map, length, ◌==◌, ◌≢◌, slice_index_or, refl}
+use Rattle.std.proofs.Common.{sym, ap, subst, ◌∙◌, arith}
 use Rattle.std.proofs.lemmas.List.{append-nil}
 use Rattle.std.proofs.lemmas.Bool.{and_parts, and_from, or_left, or_right, eq-eqb, eqb-true, both_ways}
 use Rattle.std.specs.List.{AllByRecursion}
@@ -30,7 +30,16 @@ pub walk_linked : (f g : ℕ → ℕ) (a : ℕ) (xs : List ℕ) (b : ℕ) → Li
 walk_linked f g a [] b h = refl
 walk_linked f g a (x ∷ xs) b h = ap (λ i. i ∷ walk f (length xs) (f i)) h.0 ∙ ap (λ l. x ∷ l) (walk_linked f g x xs b h.2)
 
--- along the chain: its first and its last
+-- along the chain: its first, the next of each, and its last
+pub first_of : (f g : ℕ → ℕ) (a : ℕ) (xs : List ℕ) (b : ℕ) → Linked f g a xs b → f a ≡ slice_index_or xs 0 b
+first_of f g a [] b h = h.0
+first_of f g a (x ∷ xs) b h = h.0
+
+pub step_of : (f g : ℕ → ℕ) (a : ℕ) (xs : List ℕ) (b : ℕ) (k : ℕ) → k < length xs → Linked f g a xs b → f (slice_index_or xs k b) ≡ slice_index_or xs (suc k) b
+step_of f g a [] b k l h = absurd (omega arith)
+step_of f g a (x ∷ xs) b zero l h = first_of f g x xs b h.2
+step_of f g a (x ∷ xs) b (suc k) l h = step_of f g x xs b k (omega arith) h.2
+
 pub first_among : (f g : ℕ → ℕ) (a : ℕ) (xs : List ℕ) (b : ℕ) → Linked f g a xs b → among (f a) (b ∷ xs) ≡ true
 first_among f g a [] b h = or_left _ _ (eq-eqb _ _ (sym h.0))
 first_among f g a (x ∷ xs) b h = or_right _ _ (or_left _ _ (eq-eqb _ _ (sym h.0)))
