@@ -1,4 +1,5 @@
 // What a day is made of: a market with its capacities, the calls that are sent, and their answers.
+// The reckoning is written apart from the engine's whole days, so it has calls and answers of its own.
 use engine::matched::Matched;
 use instructions::effect::Effect;
 use locked_stock::receipt::Receipt;

@@ -29,6 +29,7 @@ pub trait Book {
 }
 
 // A book that can be changed.
+// That its capacity stays is a clause of each call, since it relates the store before the call to the store after it.
 pub trait Store: Book {
     // its capacity
     ghost room: { Self → ℕ };

@@ -6,6 +6,7 @@ ghost use Rattle.chain_table.specs.Chains.{spot, used_rows, free_rows, rows_told
 use crate::chain::Chain;
 
 // Each row is in use or free; the rows in use are the list, from the first row along the chain.
+// Rows are named by index, so that none moves when another leaves.
 #[derive(Drop)]
 pub struct ChainTable {
     pub(crate) chain: Chain,

@@ -10,7 +10,7 @@ use instructions::effect::Effect;
 use orders::refusal::Refusal;
 use std::fmt;
 
-#[derive(Clone, Copy)]
+#[derive(Clone, Copy, PartialEq, Eq, Debug)]
 pub enum Answer {
     // the settings are accepted
     Ready,

@@ -3,7 +3,7 @@ use orders::instruction::Instruction;
 use orders::ticket::Ticket;
 use pricing::quote::Quote;
 
-#[derive(Clone, Copy)]
+#[derive(Clone, Copy, PartialEq, Eq, Debug)]
 pub enum Call {
     Send(Instruction<Ticket>),
     Freeze,

@@ -2,7 +2,7 @@
 use crate::answer::Answer;
 use crate::call::Call;
 
-#[derive(Clone, Copy)]
+#[derive(Clone, Copy, PartialEq, Eq, Debug)]
 pub struct Note {
     pub call: Call,
     pub answer: Answer,

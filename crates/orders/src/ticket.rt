@@ -1,4 +1,4 @@
-// What a member sends for an order. Any numbers may come; a price of 0 is not given.
+// What a member sends for an order, number for number. Any numbers may come; a price of 0 is not given.
 use crate::terms::{OrderType, Side};
 
 #[derive(Clone, Copy, PartialEq, Eq, Debug)]

@@ -1,7 +1,7 @@
 // What an order or the quote wants to trade in an auction.
 
-// The number 0 is the quote.
-#[derive(Clone, Copy, Default)]
+// The number 0 is the quote, as in a fill.
+#[derive(Clone, Copy, PartialEq, Eq, Debug, Default)]
 pub struct Interest {
     pub number: u32,
     pub quantity: u32,

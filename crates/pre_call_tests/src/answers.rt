@@ -69,6 +69,7 @@ impl Market {
         Ok(market)
     }
 
+    // one for each of the three calls, since each is to be tried
     fn enter(
         &mut self,
         rt: &impl Abort,

@@ -8,7 +8,7 @@ use orders::refusal::Refusal;
 use orders::settings::Settings;
 
 // What a Specialist names for a match; any numbers may come.
-#[derive(Clone, Copy)]
+#[derive(Clone, Copy, PartialEq, Eq, Debug)]
 pub struct Quote {
     pub bid: u32,
     pub ask: u32,
@@ -17,7 +17,7 @@ pub struct Quote {
 }
 
 // A quote that is taken: in range, and the bid below the ask.
-#[derive(Clone, Copy)]
+#[derive(Clone, Copy, PartialEq, Eq, Debug)]
 pub struct MatchingQuote {
     pub(crate) quote: Quote,
     ghost apart: { quote.bid < quote.ask },

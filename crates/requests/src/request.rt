@@ -1,7 +1,7 @@
 // A quote request.
 use orders::terms::Side;
 
-// A participant asks for a quote; it may name a side, and a quantity, 0 being one that is not told.
+// A participant asks for a quote; it may name a side, and a quantity, which is sent as 0 where it is not told.
 #[derive(Clone, Copy, PartialEq, Eq, Debug)]
 pub struct QuoteRequest {
     pub participant: u16,

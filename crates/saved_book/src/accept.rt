@@ -37,6 +37,7 @@ fn check_record(settings: Settings, layout: &Layout<'_>, place: usize) -> Result
 fn check_records(settings: Settings, layout: &Layout<'_>) -> Result<(), SavedFault>
     ensures { result ≡ seen (λ _. tt) (orders_upto (grid_of settings) layout.now.bytes.now layout.now.count layout.now.count) }
 {
+    // a range, since the place of a bad record is told
     for place in 0..layout.count {
         if let Err(fault) = check_record(settings, layout, place) {
             return Err(SavedFault::Record { place, fault });

@@ -46,6 +46,7 @@ impl RecordFault {
 }
 
 impl SavedFault {
+    // The refusal that it is told by; no `From`, since the record and its fault are lost.
     pub fn refusal(self) -> Refusal
         ensures { result ≡ saved_refusal self }
     {
@@ -57,6 +58,7 @@ impl SavedFault {
 }
 
 impl LoadFault {
+    // The refusal that it is told by.
     pub fn refusal(self) -> Refusal
         ensures { result ≡ load_refusal self }
     {

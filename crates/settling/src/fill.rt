@@ -1,6 +1,6 @@
 // A fill: one trade of an auction.
 
-// Buyer and seller are order numbers; 0 is the quote.
+// Buyer and seller are order numbers; 0 is the quote, as members are told.
 #[derive(Clone, Copy, PartialEq, Eq, Debug)]
 pub struct Fill {
     pub buyer: u32,

@@ -4,7 +4,7 @@ use orders::refusal::Refusal;
 use orders::terms::Terms;
 use saved_book::fault::SavedFault;
 
-#[derive(Clone, Copy)]
+#[derive(Clone, Copy, PartialEq, Eq, Debug)]
 pub enum Line {
     // how to use the tool
     Usage,

@@ -4,7 +4,7 @@ ghost use Rattle.show_book.specs.Requests.{asked};
 
 use pricing::quote::Quote;
 
-#[derive(Clone, Copy)]
+#[derive(Clone, Copy, PartialEq, Eq, Debug)]
 pub struct Request {
     pub lot: u16,
     pub tick_class: u32,

@@ -17,4 +17,4 @@ returns-clause-steps g c =
     let ts = g.B.Book.orders c.self.inside.book.now in
     let h = c.in_ok-place.ensures.steps in
     subst (λ k. YieldsFirstBy {S = List Terms} terms_of (λ l. l) c.args.self.now c.order_at.result (drop k ts)) (sym h.1.2) (
-      first_left ts c.args.self.now c.self.inside.places.start c.order_at.result c.self.view_is (omega (arith, h.1.0, c.self.invariant)) (c.order_at.ensures.value ∙ ap (slice_get ts) h.1.1))
+    first_left ts c.args.self.now c.self.inside.places.start c.order_at.result c.self.view_is (omega (arith, h.1.0, c.self.invariant)) (c.order_at.ensures.value ∙ ap (slice_get ts) h.1.1))
