@@ -9,6 +9,7 @@ use engine::pre_call::PreCall;
 use locked_stock::hold::LockedStock;
 use locked_stock::receipt::Receipt;
 use orders::instruction::Instruction;
+use orders::order::Order;
 use orders::refusal::Refusal;
 use orders::settings::Settings;
 use orders::ticket::Ticket;
@@ -34,7 +35,7 @@ fn in_pre_call<S: Store>(phase: PreCall, call: Call, store: &mut S) -> (Phase, A
             },
         ) => phase.delete(store, number, participant),
         Call::Freeze => return (Phase::Locked(phase.freeze()), Answer::Frozen),
-        _ => return (Phase::Open(phase), Answer::NoCall),
+        _ => return (Phase::Open(phase), Answer::Refused(Refusal::WrongPhase)),
     };
     match answer {
         Ok(effect) => (Phase::Open(phase), Answer::Done(effect)),
@@ -84,7 +85,7 @@ fn in_freeze<S: Store>(
             let answer = wait(&phase, instruction, stock);
             (Phase::Locked(phase), answer)
         }
-        Call::Freeze => (Phase::Locked(phase), Answer::NoCall),
+        Call::Freeze => (Phase::Locked(phase), Answer::Refused(Refusal::WrongPhase)),
         Call::Match {
             quote,
             fills: fill_entries,
@@ -130,13 +131,9 @@ fn end<S: Store>(phase: Phase, store: &mut S, stock: &mut LockedStock<'_>) {
 }
 
 fn has_book<B: Book>(book: &B, reckoned: &[Resting]) -> bool {
-    for (place, order) in reckoned.iter().enumerate() {
-        match book.order_at(place) {
-            Some(found) if found.terms() == order.terms() => {}
-            _ => return false,
-        }
-    }
     book.count() == reckoned.len()
+        && reckoned.iter().enumerate().all(|(place, order)| book.order_at(place)
+            == Order::new(order.terms()))
 }
 
 fn is_left<B: Book>(

@@ -332,7 +332,7 @@ impl Reckoning {
                     Answer::Lifted(self.release())
                 }
             }
-            _ => Answer::NoCall,
+            _ => Answer::Refused(Refusal::WrongPhase),
         }
     }
 
@@ -344,7 +344,7 @@ impl Reckoning {
                 self.held = Some(Vec::new(self.heap));
                 Answer::Frozen
             }
-            _ => Answer::NoCall,
+            _ => Answer::Refused(Refusal::WrongPhase),
         };
         let _ = self.answers.push(answer);
         answer

@@ -72,6 +72,7 @@ pub struct Twins {
 }
 
 // Two days side by side, over stores of whatever make.
+// What each lends is named by itself, since the promise speaks of each before and after.
 pub fn run_twins<A: Store, B: Store>(
     settings: Settings,
     store: &mut A,

@@ -16,6 +16,7 @@ use orders::settings::Settings;
 use orders::ticket::Ticket;
 
 // Bytes with a head that fits them.
+// That a place is below the count is asked of each call, as of an index: a place is no value of its own.
 #[derive(Drop)]
 pub(crate) struct Layout<'a> {
     bytes: &'a [u8],
