@@ -19,8 +19,7 @@ fn number_of(instruction: Instruction<Order>) -> u32
     ensures { result ≡ about (told instruction) }
 {
     match instruction {
-        Instruction::Enter(order) => order.terms().number,
-        Instruction::Change(order) => order.terms().number,
+        Instruction::Enter(order) | Instruction::Change(order) => order.terms().number,
         Instruction::Delete { number, .. } => number,
     }
 }
