@@ -80,7 +80,7 @@ fn carry_out_in_pre_call<S: Store>(pre_call: PreCall, store: &mut S, call: Call)
     }
 }
 
-// A match over lent entries, which are refused as those of the call are.
+// A match over as many entries as the call lends, or 256.
 fn match_over<S: Store>(
     frozen: Frozen,
     store: &mut S,
@@ -98,7 +98,7 @@ fn match_over<S: Store>(
     }
 }
 
-// A lift over lent entries, which are refused as those of the call are.
+// A lift over as many entries as the call lends, or 256.
 fn lift_over<S: Store>(
     frozen: Frozen,
     store: &mut S,
