@@ -4,9 +4,12 @@ ghost use Rattle.std.specs.Char.{is_ascii_digit};
 ghost use Rattle.std.specs.List.{list_all, prefix_len};
 ghost use Rattle.std.specs.Str.Parse.{digits_value};
 
+// The largest number that is read, 4294967295, has ten digits.
+const MOST_DIGITS: usize = 10;
+
 #[derive(Clone, Copy)]
 pub(crate) struct Digits<'a> {
-    pub(crate) bytes: &'a [u8],
+    bytes: &'a [u8],
     ghost decimal: { list_all is_ascii_digit bytes.now ≡ true },
 }
 
@@ -38,7 +41,7 @@ impl<'a> Digits<'a> {
     pub(crate) fn value(self) -> Option<u64>
         ensures { result ≡ (if nat_le (length self.entry.bytes.now) 10 then Some (digits_value 10 self.entry.bytes.now) else None) }
     {
-        if self.bytes.len() > 10 {
+        if self.bytes.len() > MOST_DIGITS {
             return None;
         }
         let mut sum: u64 = 0;

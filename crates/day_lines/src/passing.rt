@@ -61,7 +61,7 @@ impl<'a> Cursor<'a> {
     pub(crate) fn short_number(&mut self) -> Result<u16, FieldFault>
         ensures { Passes short_field self.old result self.new }
     {
-        let n = self.number_up_to(65_535)?;
+        let n = self.number_up_to(u32::from(u16::MAX))?;
         Ok(n as u16)
     }
 
