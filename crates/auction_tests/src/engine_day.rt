@@ -19,6 +19,7 @@ use std::alloc::Global;
 use std::process::Abort;
 use std::test::Fail;
 
+// The engine's day here and its reckoning stand apart from the crate of whole days, so that each of the six calls is tried by itself.
 enum Phase {
     Open(PreCall),
     Locked(Frozen),
@@ -61,14 +62,8 @@ fn wait(phase: &Frozen, instruction: Instruction<Ticket>, stock: &mut LockedStoc
 // The phase that a match or a lift leads to, and its answer.
 fn ended<T>(res: Result<(PreCall, T), (Frozen, Refusal)>) -> (Phase, Result<T, Refusal>) {
     match res {
-        Ok(done) => {
-            let (phase, answer) = done;
-            (Phase::Open(phase), Ok(answer))
-        }
-        Err(refused) => {
-            let (phase, refusal) = refused;
-            (Phase::Locked(phase), Err(refusal))
-        }
+        Ok((phase, answer)) => (Phase::Open(phase), Ok(answer)),
+        Err((phase, refusal)) => (Phase::Locked(phase), Err(refusal)),
     }
 }
 
@@ -149,7 +144,7 @@ fn is_left<B: Book>(
         && has_book(book, day.book.as_slice())
 }
 
-// How many calls of a day answer, and leave the locked stock, the entries and the book, as is reckoned.
+// Does each call of a day answer, and leave the locked stock, the entries and the book, as is reckoned?
 fn calls_alike<S: Store>(
     day: &mut Reckoning,
     settings: Settings,
@@ -158,17 +153,17 @@ fn calls_alike<S: Store>(
     fills: &mut [Fill],
     receipts: &mut [Receipt],
     calls: &[Call],
-) -> usize {
+) -> bool {
     let mut phase = Phase::Open(PreCall::new(settings));
-    let mut alike = 0usize;
+    let mut alike = true;
     for call in calls {
         let (next, answer) = match phase {
             Phase::Open(phase) => in_pre_call(phase, *call, store),
             Phase::Locked(phase) => in_freeze(phase, *call, store, stock, fills, receipts),
         };
         phase = next;
-        if day.answer(*call) == answer && is_left(day, store, stock.len(), fills, receipts) {
-            alike = alike.saturating_add(1);
+        if day.answer(*call) != answer || !is_left(day, store, stock.len(), fills, receipts) {
+            alike = false;
         }
     }
     end(phase, store, stock);
@@ -202,7 +197,7 @@ fn day_over<S: Store>(
         &mut receipts,
         calls,
     );
-    assert_eq!(rt; alike, calls.len());
+    assert!(rt; alike);
     Ok(day)
 }
 
