@@ -1,4 +1,4 @@
-// Whole days over stores.
+// Whole days over stores. What a day is lent is named one by one, since the promises speak of each before and after.
 ghost use Rattle.std.specs.Prelude.{◌≡◌, ◌<◌, false, length};
 ghost use Rattle.orders.specs.Told.{grid_of};
 ghost use Rattle.locked_stock.specs.Holding.{held_in};
@@ -72,7 +72,6 @@ pub struct Twins {
 }
 
 // Two days side by side, over stores of whatever make.
-// What each lends is named by itself, since the promise speaks of each before and after.
 pub fn run_twins<A: Store, B: Store>(
     settings: Settings,
     store: &mut A,
