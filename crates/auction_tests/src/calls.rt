@@ -43,8 +43,6 @@ pub(crate) enum Answer {
     Matched(Matched),
     Lifted(usize),
     Refused(Refusal),
-    // the phase has no such call
-    NoCall,
 }
 
 // How many entries for fills, and how many for receipts, a host has to lend.

@@ -147,6 +147,7 @@ pub(crate) fn put_at<T: Copy>(entries: &mut [T], place: usize, value: T) {
 
 // Pair by pair the foremost buy and the foremost sell trade. Each pair fills one of them, so there are no more pairs than orders.
 pub(crate) fn trade(orders: &mut [Resting], price: u32, fills: &mut [Fill]) -> usize {
+    // counted by hand, since not each round makes a pair, and the count is the answer
     let mut count = 0usize;
     for _ in 0..orders.len() {
         let buy = foremost(orders, Side::Buy, price);

@@ -190,6 +190,8 @@ impl Reached {
                 Answer::Matched(Matched::Priced { .. }) => {
                     self.prices = self.prices.saturating_add(1);
                 }
+                // the phase has no such call
+                Answer::Refused(Refusal::WrongPhase) => {}
                 Answer::Refused(refusal) if !self.refusals.as_slice().contains(&refusal) => {
                     let _ = self.refusals.push(refusal);
                 }

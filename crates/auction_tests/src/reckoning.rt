@@ -38,8 +38,8 @@ fn is_right(market: Market, price: u32, is_wanted: bool) -> bool {
     }
 }
 
-// Checks 1 to 3 of a ticket.
-fn ticket_fault(market: Market, ticket: Ticket) -> Option<Refusal> {
+// A ticket's own fields: neither its order number nor its participant is 0, its quantity is right, and so are its prices.
+fn check_ticket(market: Market, ticket: Ticket) -> Result<(), Refusal> {
     let (has_limit, has_stop) = match ticket.order_type {
         OrderType::Market => (false, false),
         OrderType::Limit => (true, false),
@@ -47,30 +47,29 @@ fn ticket_fault(market: Market, ticket: Ticket) -> Option<Refusal> {
         OrderType::StopLimit => (true, true),
     };
     if ticket.number == 0 || ticket.participant == 0 {
-        return Some(Refusal::Identity);
+        return Err(Refusal::Identity);
     }
     if !is_quantity(market, ticket.quantity) {
-        return Some(Refusal::Quantity);
+        return Err(Refusal::Quantity);
     }
     if is_right(market, ticket.limit, has_limit) && is_right(market, ticket.stop, has_stop) {
-        None
+        Ok(())
     } else {
-        Some(Refusal::Price)
+        Err(Refusal::Price)
     }
 }
 
-fn fault(market: Market, instruction: Instruction<Ticket>) -> Option<Refusal> {
+fn check_fields(market: Market, instruction: Instruction<Ticket>) -> Result<(), Refusal> {
     match instruction {
-        Instruction::Enter(ticket) => ticket_fault(market, ticket),
-        Instruction::Change(ticket) => ticket_fault(market, ticket),
+        Instruction::Enter(ticket) | Instruction::Change(ticket) => check_ticket(market, ticket),
         Instruction::Delete {
             number,
             participant,
         } => {
             if number == 0 || participant == 0 {
-                Some(Refusal::Identity)
+                Err(Refusal::Identity)
             } else {
-                None
+                Ok(())
             }
         }
     }
@@ -156,16 +155,14 @@ fn answer_of(
 
 fn number_of(instruction: Instruction<Ticket>) -> u32 {
     match instruction {
-        Instruction::Enter(ticket) => ticket.number,
-        Instruction::Change(ticket) => ticket.number,
+        Instruction::Enter(ticket) | Instruction::Change(ticket) => ticket.number,
         Instruction::Delete { number, .. } => number,
     }
 }
 
 fn new_order(instruction: Instruction<Ticket>) -> Option<Resting> {
     match instruction {
-        Instruction::Enter(ticket) => Some(resting(ticket)),
-        Instruction::Change(ticket) => Some(resting(ticket)),
+        Instruction::Enter(ticket) | Instruction::Change(ticket) => Some(resting(ticket)),
         Instruction::Delete { .. } => None,
     }
 }
@@ -235,21 +232,16 @@ impl Reckoning {
         answer
     }
 
-    fn send(&mut self, instruction: Instruction<Ticket>) -> Answer {
-        if let Some(refusal) = fault(self.market, instruction) {
-            return Answer::Refused(refusal);
-        }
+    fn send(&mut self, instruction: Instruction<Ticket>) -> Result<Answer, Refusal> {
+        check_fields(self.market, instruction)?;
         if let Some(held) = &mut self.held {
             if held.len() >= self.market.stock_room {
-                return Answer::Refused(Refusal::LockedStockFull);
+                return Err(Refusal::LockedStockFull);
             }
             let _ = held.push(instruction);
-            return Answer::Held;
+            return Ok(Answer::Held);
         }
-        match self.carry_out(instruction) {
-            Ok(effect) => Answer::Done(effect),
-            Err(refusal) => Answer::Refused(refusal),
-        }
+        Ok(Answer::Done(self.carry_out(instruction)?))
     }
 
     // The freeze ends: what is held is carried out, oldest first, with a receipt each.
@@ -266,21 +258,25 @@ impl Reckoning {
         held.len()
     }
 
-    fn match_fault(&self, quote: Quote, fills: usize, receipts: usize) -> Option<Refusal> {
+    fn check_receipts(&self, receipts: usize) -> Result<(), Refusal> {
+        if receipts < self.market.stock_room {
+            return Err(Refusal::ReceiptEntries);
+        }
+        Ok(())
+    }
+
+    fn check_match(&self, quote: Quote, fills: usize, receipts: usize) -> Result<(), Refusal> {
         let market = self.market;
         if !is_price(market, quote.bid) || !is_price(market, quote.ask) || quote.bid >= quote.ask {
-            return Some(Refusal::QuotePrices);
+            return Err(Refusal::QuotePrices);
         }
         if !is_volume(market, quote.bid_volume) || !is_volume(market, quote.ask_volume) {
-            return Some(Refusal::QuoteVolumes);
+            return Err(Refusal::QuoteVolumes);
         }
         if fills < self.book.len() {
-            return Some(Refusal::FillEntries);
+            return Err(Refusal::FillEntries);
         }
-        if receipts < market.stock_room {
-            return Some(Refusal::ReceiptEntries);
-        }
-        None
+        self.check_receipts(receipts)
     }
 
     fn hold_auction(&mut self, quote: Quote) -> Matched {
@@ -315,37 +311,39 @@ impl Reckoning {
     }
 
     // A call of the freeze that is not an instruction.
-    fn end(&mut self, call: Call) -> Answer {
+    fn end(&mut self, call: Call) -> Result<Answer, Refusal> {
         match call {
             Call::Match {
                 quote,
                 fills,
                 receipts,
-            } => match self.match_fault(quote, fills, receipts) {
-                Some(refusal) => Answer::Refused(refusal),
-                None => Answer::Matched(self.hold_auction(quote)),
-            },
-            Call::Lift { receipts } => {
-                if receipts < self.market.stock_room {
-                    Answer::Refused(Refusal::ReceiptEntries)
-                } else {
-                    Answer::Lifted(self.release())
-                }
+            } => {
+                self.check_match(quote, fills, receipts)?;
+                Ok(Answer::Matched(self.hold_auction(quote)))
             }
-            _ => Answer::NoCall,
+            Call::Lift { receipts } => {
+                self.check_receipts(receipts)?;
+                Ok(Answer::Lifted(self.release()))
+            }
+            _ => Err(Refusal::WrongPhase),
         }
     }
 
-    pub(crate) fn answer(&mut self, call: Call) -> Answer {
-        let answer = match call {
+    // What a call answers, or why it is refused.
+    fn call(&mut self, call: Call) -> Result<Answer, Refusal> {
+        match call {
             Call::Send(instruction) => self.send(instruction),
             _ if self.held.is_some() => self.end(call),
             Call::Freeze => {
                 self.held = Some(Vec::new(self.heap));
-                Answer::Frozen
+                Ok(Answer::Frozen)
             }
-            _ => Answer::NoCall,
-        };
+            _ => Err(Refusal::WrongPhase),
+        }
+    }
+
+    pub(crate) fn answer(&mut self, call: Call) -> Answer {
+        let answer = self.call(call).unwrap_or_else(Answer::Refused);
         let _ = self.answers.push(answer);
         answer
     }

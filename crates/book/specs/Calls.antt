@@ -39,6 +39,11 @@ pub record Kept (before after : ℕ) (ts : List Terms) : Type 0 where
   pub within : length ts ≤ after
   pub sound : Sound ts
 
+-- what a step over a store leaves: the list that is wanted, at the capacity that was
+pub record Leaves (room : ℕ) (wanted : List Terms) (room_after : ℕ) (ts : List Terms) : Type 0 where
+  pub after : ts ≡ wanted
+  pub same : room_after ≡ room
+
 -- What each call gives: on the list, at a capacity, its argument, the answer, and the capacity and the list after it.
 
 pub record Counted (ts : List Terms) (answer : ℕ) : Type 0 where

@@ -15,6 +15,7 @@ pub mod iter;
 pub mod open;
 
 // A book that can be read.
+// Each call tells that the list is sound; as a law, its proof for saved bytes would stand among the definitions.
 pub trait Book {
     // the terms of its orders, earliest first
     ghost orders: { Self → List Terms };
@@ -29,7 +30,7 @@ pub trait Book {
 }
 
 // A book that can be changed.
-// That its capacity stays is a clause of each call, since it relates the store before the call to the store after it.
+// That its capacity stays is told by each call, since it relates the store before the call to the store after it.
 pub trait Store: Book {
     // its capacity
     ghost room: { Self → ℕ };

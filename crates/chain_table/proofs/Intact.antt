@@ -1,7 +1,7 @@
 -- What holds of a table, with its rows in use and its free rows as lists.
 use Rattle.std.specs.Prelude.{◌≡◌, ℕ, ◌+◌, ◌-◌, ◌<◌, ◌≤◌, true, List, ◌∷◌, ◌++◌, map, length, vec_len, vec_capacity, ◌==◌, slice_index_or, refl}
 use Rattle.std.proofs.ByRecursion.{All-get_or}
-use Rattle.std.proofs.Common.{⊎_elim, sym, ap, ◌∙◌, add-one, arith}
+use Rattle.std.proofs.Common.{⊎_elim, sym, ap, subst, ◌∙◌, add-one, arith}
 use Rattle.std.proofs.lemmas.List.{length-map}
 use Rattle.std.proofs.lemmas.Bool.{or_cases, eqb-true}
 use Rattle.orders.specs.declared.terms.Terms.{Terms}
@@ -86,8 +86,8 @@ module _ {c : Chain} {count free capacity : ℕ} {ts : List Terms} (h : Holding 
       let apart = ap distinct list_is ∙ s.apart in
       record { most = s.most; within = s.within; reserved = s.reserved; counted = counted; linked = linked; once = once; present = present; apart = apart }
 
-  pub kept : Kept capacity capacity (rows_told c count)
-  kept = fields_kept c count free capacity closed
+  pub kept : (room : ℕ) → capacity ≡ room → Kept room capacity (rows_told c count)
+  kept room e = subst (λ n. Kept n capacity (rows_told c count)) e (fields_kept c count free capacity closed)
 
 -- a table tells as many orders as it counts
 pub rows_length : (t : ChainTable) → length (rows_of t) ≡ t.count

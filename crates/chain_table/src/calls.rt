@@ -20,6 +20,7 @@ impl Book for ChainTable {
     }
 }
 
+// Both stores say these calls alike; how a row is found and moved is each one's own.
 impl Store for ChainTable {
     ghost room = { λ t. t.capacity };
 

@@ -7,6 +7,7 @@ ghost use Rattle.chain_table.specs.Steps.{Spot, Relinked, Joined, Refilled, Push
 use crate::chain::{Chain, Links, Row};
 use orders::order::Order;
 
+// Each step asks for a row or the end, as an index into a slice is asked to be in range.
 impl Chain {
     // The neighbours of a row, or of the end.
     pub(crate) fn neighbours(&self, at: Option<usize>) -> Links

@@ -1,6 +1,5 @@
 -- The values of the code by the words of the fields.
 use Rattle.std.specs.Prelude.{ℕ, Result}
-use Rattle.std.specs.Str.Parse.{AllDigits}
 use Rattle.std.specs.Result.{result_map_both}
 use Rattle.day_lines.specs.Fields.{Token, digit_run, other_byte, line_end}
 use Rattle.day_lines.specs.declared.field.Field.{Field}
@@ -8,7 +7,7 @@ use Rattle.day_lines.specs.declared.field.Field.TheVariants.{Number, Letter, End
 
 -- a field without its place
 abbrev pub token_of : Field → Token
-token_of (Number ds p) = digit_run ds.now
+token_of (Number ds p) = digit_run ds.bytes.now
 token_of (Letter b p) = other_byte b
 token_of (End p) = line_end
 
@@ -17,12 +16,6 @@ abbrev pub stands_at : Field → ℕ
 stands_at (Number ds p) = p
 stands_at (Letter b p) = p
 stands_at (End p) = p
-
--- the digits of a number are digits
-abbrev pub WellFormed : Field → Type 0
-WellFormed (Number ds p) = AllDigits 10 ds.now
-WellFormed (Letter b p) = Unit {0}
-WellFormed (End p) = Unit {0}
 
 -- what a reading gave, with the number of bytes that the cursor has then passed
 abbrev pub left_at : {A E : Type 0} → Result A E → ℕ → Result (A × ℕ) E

@@ -2,6 +2,7 @@
 #![tactic(auto)]
 
 mod cursor;
+mod digits;
 pub mod fault;
 mod field;
 mod grammar;

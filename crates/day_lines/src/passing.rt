@@ -3,7 +3,7 @@ ghost use Rattle.std.specs.Prelude.{◌≡◌, ◌+◌, ◌≤◌, length, IfOk}
 ghost use Rattle.day_lines.specs.Fields.{token_after, token_length, next_number, next_letter, next_named, space_named, spaced, number_field, short_field, side_field, type_field};
 ghost use Rattle.day_lines.specs.Grammar.{line_ended};
 ghost use Rattle.day_lines.specs.Passing.{Passes};
-ghost use Rattle.day_lines.specs.Steps.{token_of, stands_at, WellFormed};
+ghost use Rattle.day_lines.specs.Steps.{token_of, stands_at};
 
 use crate::cursor::Cursor;
 use crate::fault::{Cause, FieldFault, LineFault};
@@ -15,7 +15,6 @@ impl<'a> Cursor<'a> {
     fn field(&self) -> Field<'a>
         ensures token { token_of result ≡ token_after self.now.line.now self.now.at }
         ensures place { stands_at result ≡ self.now.at + 1 }
-        ensures form { WellFormed result }
         ensures within { self.now.at + token_length (token_of result) ≤ length self.now.line.now }
     {
         Field::first(&self.line[self.at..], self.at + 1)
@@ -62,7 +61,7 @@ impl<'a> Cursor<'a> {
     pub(crate) fn short_number(&mut self) -> Result<u16, FieldFault>
         ensures { Passes short_field self.old result self.new }
     {
-        let n = self.number_up_to(65_535)?;
+        let n = self.number_up_to(u32::from(u16::MAX))?;
         Ok(n as u16)
     }
 

@@ -25,6 +25,7 @@ impl Stage {
     }
 
     // What a line at this stage says; that it is out of place is told only once its text is right.
+    // It stands apart from the public call, whose further promises are of the answer as a whole.
     pub(crate) fn place(self, line: &[u8]) -> Result<Line, DayFault>
         ensures { result ≡ day_line self line.now }
     {

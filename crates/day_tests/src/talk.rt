@@ -11,7 +11,7 @@ use std::io::BufRead;
 use std::process::Abort;
 use std::test::Fail;
 
-// What a day over a store prints for an input.
+// What a day over a store prints for an input: the loop of the day program, over text.
 fn talk_over<S: Store + Drop>(heap: Global, store: S, input: &[u8]) -> Result<String, Fail> {
     let mut day = Day::new(store);
     let mut output = String::new(heap);

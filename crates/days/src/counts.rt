@@ -5,7 +5,7 @@ ghost use Rattle.days.specs.Counts.{counts_in};
 use crate::answer::Answer;
 use engine::matched::Matched;
 
-#[derive(Clone, Copy, PartialEq, Eq, Debug)]
+#[derive(Clone, Copy, PartialEq, Eq, Debug, Default)]
 pub struct Counts {
     pub stops: usize,
     pub fills: usize,
@@ -36,15 +36,10 @@ impl Answer {
                 receipts,
             },
             Answer::Lifted { receipts } => Counts {
-                stops: 0,
-                fills: 0,
                 receipts,
+                ..Counts::default()
             },
-            _ => Counts {
-                stops: 0,
-                fills: 0,
-                receipts: 0,
-            },
+            _ => Counts::default(),
         }
     }
 }

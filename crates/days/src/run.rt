@@ -1,4 +1,4 @@
-// Whole days over stores.
+// Whole days over stores. What a day is lent is named one by one, since the promises speak of each before and after.
 ghost use Rattle.std.specs.Prelude.{◌≡◌, ◌<◌, false, length};
 ghost use Rattle.orders.specs.Told.{grid_of};
 ghost use Rattle.locked_stock.specs.Holding.{held_in};

@@ -80,7 +80,7 @@ fn carry_out_in_pre_call<S: Store>(pre_call: PreCall, store: &mut S, call: Call)
     }
 }
 
-// A match over lent entries, which are refused as those of the call are.
+// A match over as many entries as the call lends, or 256.
 fn match_over<S: Store>(
     frozen: Frozen,
     store: &mut S,
@@ -98,7 +98,7 @@ fn match_over<S: Store>(
     }
 }
 
-// A lift over lent entries, which are refused as those of the call are.
+// A lift over as many entries as the call lends, or 256.
 fn lift_over<S: Store>(
     frozen: Frozen,
     store: &mut S,
@@ -120,10 +120,9 @@ fn carry_out_in_freeze<S: Store>(
     store: &mut S,
     stock: &mut LockedStock<'_>,
     call: Call,
-    filled: &mut [Fill],
-    told: &mut [Receipt],
+    filled: &mut [Fill; MOST],
+    told: &mut [Receipt; MOST],
 ) -> (Phase, Answer)
-    requires { (length filled.old ≡ 256) × (length told.old ≡ 256) }
     ensures { CarriedOut (grid_frozen frozen) (S.Store.room store.old) stock.old (in_freeze (S.Book.orders store.old) (held_in stock.old)) call result.1 filled.new told.new (grid_in result.0) (S.Store.room store.new) stock.new (state_of result.0 (S.Book.orders store.new) stock.new) }
 {
     match call {
@@ -153,10 +152,9 @@ fn carry_out<S: Store>(
     store: &mut S,
     stock: &mut LockedStock<'_>,
     call: Call,
-    filled: &mut [Fill],
-    told: &mut [Receipt],
+    filled: &mut [Fill; MOST],
+    told: &mut [Receipt; MOST],
 ) -> (Phase, Answer)
-    requires { (length filled.old ≡ 256) × (length told.old ≡ 256) }
     ensures { CarriedOut (grid_in phase) (S.Store.room store.old) stock.old (state_of phase (S.Book.orders store.old) stock.old) call result.1 filled.new told.new (grid_in result.0) (S.Store.room store.new) stock.new (state_of result.0 (S.Book.orders store.new) stock.new) }
 {
     match phase {

@@ -52,6 +52,7 @@ fn run_match<S: Store>(
 }
 
 // A match: its checks, and then the auction with what was held.
+// What it is lent is named one by one, since the promise speaks of each before and after.
 // The auction and the release check their entries too, but once the auction is held nothing may be refused.
 fn hold_match<S: Store>(
     settings: Settings,

@@ -6,7 +6,7 @@ use auction::auctioned::Auctioned;
 use pricing::trial::TrialPrice;
 
 // A price with its shares and its surplus, or none; and how many stops were triggered, fills and receipts written.
-// An enum of the two cases, as a trial price is one, and no option with the counts beside it: what a match answers is one or the other.
+// It is an enum of two cases, as a trial price is (docs/DECISIONS.md).
 #[derive(Clone, Copy, PartialEq, Eq, Debug)]
 pub enum Matched {
     Priced {

@@ -19,10 +19,7 @@ use orders::terms::Terms;
 fn own_order<B: Book>(book: &B, number: u32, participant: u16) -> Result<Terms, Refusal>
     ensures { result ≡ owned participant (found number (B.Book.orders book.now)) }
 {
-    let Some(order) = find(book, number) else {
-        return Err(Refusal::NumberUnknown);
-    };
-    let terms = order.terms();
+    let terms = find(book, number).ok_or(Refusal::NumberUnknown)?.terms();
     if terms.participant != participant {
         return Err(Refusal::OtherParticipant);
     }

@@ -6,7 +6,7 @@ use std::process::Abort;
 use std::test::Fail;
 use waiting_line::line::WaitingLine;
 
-// A sequence of numbers that looks random.
+// A sequence of numbers that looks random. The generator is its own, so that this test keeps the numbers that it has.
 fn next(state: u32) -> u32 {
     state.wrapping_mul(1_103_515_245).wrapping_add(12_345)
 }

@@ -19,8 +19,7 @@ fn number_of(instruction: Instruction<Order>) -> u32
     ensures { result ≡ about (told instruction) }
 {
     match instruction {
-        Instruction::Enter(order) => order.terms().number,
-        Instruction::Change(order) => order.terms().number,
+        Instruction::Enter(order) | Instruction::Change(order) => order.terms().number,
         Instruction::Delete { number, .. } => number,
     }
 }
@@ -34,7 +33,7 @@ fn carry_out_all<S: Store>(
     requires { room_of stock.old.slots.now ≤ length receipts.old }
     ensures { Emptied (S.Store.room store.old) stock.old (S.Book.orders store.old) receipts.old result (S.Store.room store.new) stock.new (S.Book.orders store.new) receipts.new }
 {
-    // counted by hand: the count is the answer, and a `for` over the entries would ask of each whether one still waits
+    // The count is the answer; a `for` over the entries would have to ask each time whether one still waits.
     let mut count = 0;
     while let Some(instruction) = stock.take() {
         receipts[count] = Receipt {

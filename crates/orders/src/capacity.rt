@@ -11,10 +11,7 @@ pub const MOST: usize = 256;
 pub fn check_capacity(length: usize) -> Result<(), Refusal>
     ensures { result ≡ capacity_answer length }
 {
-    if length == 0 {
-        return Err(Refusal::Capacity);
-    }
-    if length > MOST {
+    if length == 0 || length > MOST {
         return Err(Refusal::Capacity);
     }
     Ok(())

@@ -68,19 +68,15 @@ impl Settings {
         if !self.is_on_lot(quantity) {
             return Err(Refusal::Quantity);
         }
-        match self.kind(ticket) {
-            Some(kind) => {
-                let terms = Terms {
-                    number,
-                    participant,
-                    side,
-                    kind,
-                    quantity,
-                };
-                Ok(Order { terms })
-            }
-            None => Err(Refusal::Price),
-        }
+        let kind = self.kind(ticket).ok_or(Refusal::Price)?;
+        let terms = Terms {
+            number,
+            participant,
+            side,
+            kind,
+            quantity,
+        };
+        Ok(Order { terms })
     }
 
     // The instruction about the order that it asks for.

@@ -34,10 +34,7 @@ impl Order {
     pub fn lowered(self, quantity: u32) -> Option<Order>
         ensures { option_map (λ o. o.terms) result ≡ (if nat_le 1 quantity && nat_le quantity self.terms.quantity then Some (with_quantity self.terms quantity) else None) }
     {
-        if quantity == 0 {
-            return None;
-        }
-        if quantity > self.terms.quantity {
+        if quantity == 0 || quantity > self.terms.quantity {
             return None;
         }
         let terms = Terms {

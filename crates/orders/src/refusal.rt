@@ -25,7 +25,7 @@ pub enum Refusal {
     QuotePrices = 11,
     // the volumes of a matching quote: too large or off the lot
     QuoteVolumes = 12,
-    // a day line that does not belong to the phase
+    // a call or a day line that does not belong to the phase
     WrongPhase = 13,
     // the lot or the tick class is out of range
     Settings = 14,

@@ -18,13 +18,7 @@ impl Settings {
     pub fn new(lot: u16, tick_class: u32) -> Result<Settings, Refusal>
         ensures { seen (λ s. grid s.lot s.tick_class) result ≡ settings_answer lot tick_class }
     {
-        if lot == 0 {
-            return Err(Refusal::Settings);
-        }
-        if lot > 1_000 {
-            return Err(Refusal::Settings);
-        }
-        if tick_class > 17 {
+        if lot == 0 || lot > 1_000 || tick_class > 17 {
             return Err(Refusal::Settings);
         }
         Ok(Settings {

@@ -4,7 +4,7 @@ ghost use Rattle.pairing.specs.Answers.{Filled};
 ghost use Rattle.pairing.specs.Laws.{FillsAddUp, ByPriority};
 
 use crate::pairs::pair;
-use crate::queue::interests;
+use crate::queue::Interests;
 use book::Book;
 use orders::refusal::Refusal;
 use orders::terms::Side;
@@ -26,7 +26,7 @@ pub fn fill_orders<B: Book>(
     if fills.len() < book.count() {
         return Err(Refusal::FillEntries);
     }
-    let buys = interests(book, quote, Side::Buy, price);
-    let sells = interests(book, quote, Side::Sell, price);
+    let buys = Interests::of(book, quote, Side::Buy, price);
+    let sells = Interests::of(book, quote, Side::Sell, price);
     Ok(pair(price, &buys, &sells, fills))
 }

@@ -1,33 +1,32 @@
 // The pairing of the two sides of an auction.
 ghost use Rattle.std.specs.Prelude.{◌≡◌, ◌≤◌, length, sum_by};
 ghost use Rattle.pairing.specs.Pairs.{paired};
-ghost use Rattle.pairing.specs.Steps.{wanted, Pairable, Written};
+ghost use Rattle.pairing.specs.Steps.{wanted, Written};
 
-use crate::interest::Interest;
+use crate::queue::Interests;
 use settling::fill::Fill;
 
-// The shares that all of them want.
-fn total(interests: &[Interest]) -> u32
-    requires { Pairable interests.now }
-    ensures { result ≡ sum_by wanted interests.now }
-{
-    interests.iter().map(|interest| interest.quantity).sum()
+impl Interests {
+    // The shares that all of them want.
+    fn shares(&self) -> u32
+        ensures { result ≡ sum_by wanted self.now.list.items }
+    {
+        self.list.iter().map(|interest| interest.quantity).sum()
+    }
 }
 
 // Pairs the first unfilled buy with the first unfilled sell until the shares are used up.
 // Writes the fills to the front of the array, and tells how many there are.
-pub(crate) fn pair(price: u32, buys: &[Interest], sells: &[Interest], fills: &mut [Fill]) -> usize
-    requires buyers { Pairable buys.now }
-    requires sellers { Pairable sells.now }
-    requires room { length (paired price buys.now sells.now) ≤ length fills.old }
-    ensures { Written (paired price buys.now sells.now) fills.old result fills.new }
+pub(crate) fn pair(price: u32, buys: &Interests, sells: &Interests, fills: &mut [Fill]) -> usize
+    requires { length (paired price buys.now.list.items sells.now.list.items) ≤ length fills.old }
+    ensures { Written (paired price buys.now.list.items sells.now.list.items) fills.old result fills.new }
 {
-    let mut left = total(buys).min(total(sells));
+    let mut left = buys.shares().min(sells.shares());
     // Counted by hand: the count is the answer.
     let mut count = 0;
-    let mut rest = sells;
+    let mut rest = sells.list.as_slice();
     let mut taken = 0;
-    'auction: for buy in buys {
+    'auction: for buy in buys.list.as_slice() {
         let buyer = buy.number;
         let mut open = buy.quantity;
         while open > 0 {

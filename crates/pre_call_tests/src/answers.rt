@@ -69,7 +69,7 @@ impl Market {
         Ok(market)
     }
 
-    // one for each of the three calls, since each is to be tried
+    // One for each of the three calls: each is tried by itself.
     fn enter(
         &mut self,
         rt: &impl Abort,

@@ -34,12 +34,14 @@ pub(crate) fn check_fills(
     let mut entries = vec![in heap; BLANK; orders.len()]?;
     let count = fill_orders(&book, matching, price, entries.as_mut_slice())?;
     assert_eq!(rt; count, expected.len());
-    for (place, entry) in entries.as_slice().iter().enumerate() {
-        match expected.get(place) {
-            Some(fill) => assert_eq!(rt; *entry, *fill),
-            None => assert_eq!(rt; *entry, BLANK),
-        }
-    }
+    assert!(rt; entries.as_slice().starts_with(expected));
+    assert!(rt;
+        entries
+            .as_slice()
+            .iter()
+            .skip(expected.len())
+            .all(|entry| *entry == BLANK)
+    );
     Ok(())
 }
 

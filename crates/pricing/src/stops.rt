@@ -47,8 +47,7 @@ fn ready_kind(kind: Kind) -> Kind
 {
     match kind {
         Kind::Market | Kind::StopMarket { .. } => Kind::Market,
-        Kind::Limit { limit } => Kind::Limit { limit },
-        Kind::StopLimit { limit, .. } => Kind::Limit { limit },
+        Kind::Limit { limit } | Kind::StopLimit { limit, .. } => Kind::Limit { limit },
     }
 }
 

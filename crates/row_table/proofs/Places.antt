@@ -1,10 +1,10 @@
 -- What the place of a number says of the list, and what the row there says of it.
-use Rattle.std.proofs.Common.{◌≡◌, ℕ, suc, ◌+◌, ◌<◌, ◌≤◌, Bool, true, false, cond, List, [], ◌∷◌, map, length, get_or, take, drop, set, remove, position, Some, None, is_some, option_map, ◌==◌, nat_lt, slice_get, slice_index_or, slice_set, Vec, vec_items, vec_len, ⊎_elim, refl, sym, ap, ◌∙◌, arith}
+use Rattle.std.proofs.Common.{◌≡◌, ℕ, suc, ◌+◌, ◌<◌, ◌≤◌, Bool, true, false, cond, List, [], ◌∷◌, ◌≢◌, map, length, get_or, take, drop, set, remove, position, Some, None, is_some, option_map, ◌==◌, nat_lt, slice_get, slice_index_or, slice_set, Vec, vec_items, vec_len, ⊎_elim, refl, sym, ap, ◌∙◌, arith}
 use Rattle.std.proofs.Math.Numerals.{one-add}
-use Rattle.std.proofs.lemmas.List.{take-map, drop-map, map-append, length-map, get_or-map, map-set}
+use Rattle.std.proofs.lemmas.List.{take-map, drop-map, map-append, length-map, get_or-map, map-set, drop_more}
 use Rattle.std.proofs.lemmas.List.Folds.{find_at}
 use Rattle.std.proofs.lemmas.Option.{slice_get-map, slice_get-get_or, slice_get_past}
-use Rattle.std.proofs.lemmas.Bool.{ltb-true, ltb-false, lt-ltb, cases_Bool}
+use Rattle.std.proofs.lemmas.Bool.{ltb-true, ltb-false, lt-ltb, cases_Bool, eq-eqb, ne_eqb}
 use Rattle.std.proofs.lemmas.Bool.Decides.{nat_tests}
 use Rattle.std.specs.List.{position_or_len}
 use Rattle.std.specs.declared.alloc.Global.{Global}
@@ -14,6 +14,7 @@ use Rattle.orders.specs.declared.order.Order.{Order}
 use Rattle.orders.specs.declared.terms.Terms.{Terms}
 use Rattle.book.proofs.General.{given, withheld}
 use Rattle.book.proofs.Laws.{without_none, not_held}
+use Rattle.book.proofs.Reading.{Stands}
 use Rattle.book.specs.Lists.{held, found, without, lowered}
 use Rattle.row_table.specs.Rows.{place_of}
 
@@ -21,14 +22,21 @@ use Rattle.row_table.specs.Rows.{place_of}
 abbrev first_of : ℕ → List Terms → ℕ
 first_of n = position_or_len (λ t. t.number == n)
 
-pub place_here : (n i : ℕ) (ts : List Terms) → Some i ≡ place_of n ts → (i ≡ first_of n ts) × (i < length ts)
-place_here n i ts e =
+pub place_some : (n i : ℕ) (ts : List Terms) → Some i ≡ place_of n ts → (i ≡ first_of n ts) × (i < length ts)
+place_some n i ts e =
     let g = given _ _ _ e in
     let lt = ltb-true _ _ g.0 in
     (g.1, omega (arith, lt, g.1))
 
 pub place_none : (n : ℕ) (ts : List Terms) → None ≡ place_of n ts → length ts ≤ first_of n ts
 place_none n ts e = ltb-false _ _ (withheld _ _ e)
+
+-- the search for that place, turn by turn
+pub place_here : {ts : List Terms} {i : ℕ} {t : Terms} (n : ℕ) → Stands ts i t → t.number ≡ n → first_of n (drop i ts) ≡ 0
+place_here n s e = ap (first_of n) s.first ∙ rw (eq-eqb _ _ e)
+
+pub place_next : {ts : List Terms} {i : ℕ} {t : Terms} (n : ℕ) → Stands ts i t → (t.number ≢ n) → first_of n (drop i ts) ≡ suc (first_of n (drop (i + 1) ts))
+place_next n s e = ap (first_of n) s.first ∙ rw (ne_eqb _ _ e) (one-add _)
 
 -- by that place an order is left out and lowered
 pub without_at : (n : ℕ) (ts : List Terms) → without n ts ≡ remove ts (first_of n ts)
@@ -62,6 +70,14 @@ first_told n (o ∷ os) = ⊎_elim (λ e. rw e) (λ e. rw e (ap (λ k. 1 + k) (f
 pub place_told : (n : ℕ) (os : List Order) → position (λ o. (terms_of o).number == n) os ≡ place_of n (map terms_of os)
 place_told n os = rw (first_told n os, length-map os terms_of)
 
+pub row_stands : (xs : List Order) (i : ℕ) (o : Order) → i < length xs → o ≡ slice_index_or xs i o → Stands (map terms_of xs) i (terms_of o)
+row_stands xs i o h e =
+    let within : i < length (map terms_of xs) = rw length-map h in
+    record {
+      within = within;
+      first = drop_more (map terms_of xs) i (terms_of o) within ∙ ap (λ t. t ∷ drop (i + 1) (map terms_of xs)) (get_or-map terms_of xs i o (terms_of o) h ∙ ap terms_of (sym e));
+    }
+
 pub rows_length : (v : Vec Order Global) → vec_len v ≡ length (map terms_of (vec_items v))
 rows_length v = v.ok.0 ∙ sym (length-map (vec_items v) terms_of)
 
@@ -79,17 +95,17 @@ pub record Found (n : ℕ) (xs : List Order) (i : ℕ) (o : Order) : Type 0 wher
 module _ {n : ℕ} {xs : List Order} {i : ℕ} {o : Order} (f : Found n xs i o) where
   pub row_found : Some (terms_of o) ≡ found n (map terms_of xs)
   row_found =
-      let h = place_here n i (map terms_of xs) f.place in
+      let h = place_some n i (map terms_of xs) f.place in
       let l = length-map xs terms_of in
       row_read xs i o (omega (arith, h.1, l)) f.is ∙ ap (slice_get (map terms_of xs)) h.0 ∙ sym (find_at (λ t. t.number == n) (map terms_of xs))
 
   pub row_removed : map terms_of (remove xs i) ≡ without n (map terms_of xs)
-  row_removed = map_removed terms_of xs i ∙ ap (remove (map terms_of xs)) (place_here n i (map terms_of xs) f.place).0 ∙ sym (without_at n (map terms_of xs))
+  row_removed = map_removed terms_of xs i ∙ ap (remove (map terms_of xs)) (place_some n i (map terms_of xs) f.place).0 ∙ sym (without_at n (map terms_of xs))
 
   pub row_lowered : (q : ℕ) (p : Order) → terms_of p ≡ with_quantity (terms_of o) q → map terms_of (slice_set xs i p) ≡ lowered n q (map terms_of xs)
   row_lowered q p e =
       let all = map terms_of xs in
-      let h = place_here n i all f.place in
+      let h = place_some n i all f.place in
       let l = length-map xs terms_of in
       let here : get_or all i (terms_of o) ≡ terms_of o = get_or-map terms_of xs i o (terms_of o) (omega (arith, h.1, l)) ∙ ap terms_of (sym f.is) in
       map-set terms_of xs i p

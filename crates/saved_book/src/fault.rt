@@ -46,7 +46,7 @@ impl RecordFault {
 }
 
 impl SavedFault {
-    // The refusal that it is told by; no `From`, since the record and its fault are lost.
+    // The refusal that it is told by, without the record and its fault.
     pub fn refusal(self) -> Refusal
         ensures { result ≡ saved_refusal self }
     {

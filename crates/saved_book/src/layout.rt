@@ -16,6 +16,7 @@ use orders::settings::Settings;
 use orders::ticket::Ticket;
 
 // Bytes with a head that fits them.
+// Each call asks for a place below the count, as an index into a slice does.
 #[derive(Drop)]
 pub(crate) struct Layout<'a> {
     bytes: &'a [u8],

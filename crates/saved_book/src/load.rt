@@ -1,6 +1,7 @@
 // A store loaded from saved bytes.
 ghost use Rattle.std.specs.Prelude.{◌≡◌, ◌≤◌, [], length};
 ghost use Rattle.orders.specs.Told.{grid_of};
+ghost use Rattle.book.specs.Calls.{Leaves};
 ghost use Rattle.saved_book.specs.Calls.{takes_up, Load};
 
 use crate::accept::accept;
@@ -13,8 +14,7 @@ use orders::settings::Settings;
 fn fill<B: Book, S: Store>(book: &B, store: &mut S)
     requires empty { S.Book.orders store.old ≡ [] }
     requires room { length (B.Book.orders book.now) ≤ S.Store.room store.old }
-    ensures after { S.Book.orders store.new ≡ B.Book.orders book.now }
-    ensures same { S.Store.room store.new ≡ S.Store.room store.old }
+    ensures { Leaves (S.Store.room store.old) (B.Book.orders book.now) (S.Store.room store.new) (S.Book.orders store.new) }
 {
     for order in orders_of(book) {
         // no number is held yet, and there is room: it is never refused

@@ -9,186 +9,6 @@ use std::alloc::Global;
 use std::process::Abort;
 use std::test::Fail;
 
-#[derive(Clone, Copy)]
-enum Field {
-    Number,
-    Participant,
-    Side,
-    Kind,
-    Quantity,
-    Limit,
-    Stop,
-}
-
-// A good entry, of which one field is given another value, and its fault by number, if it has one.
-#[derive(Clone, Copy)]
-struct Case {
-    good: u32,
-    field: Field,
-    value: u32,
-    fault: Option<u8>,
-}
-
-// The good entries: 5 a limit order, 6 a stop market order, 7 a stop limit order, 8 a market order.
-static CASES: [Case; 26] = [
-    Case {
-        good: 5,
-        field: Field::Number,
-        value: 4_294_967_295,
-        fault: None,
-    },
-    Case {
-        good: 5,
-        field: Field::Participant,
-        value: 65_535,
-        fault: None,
-    },
-    Case {
-        good: 6,
-        field: Field::Side,
-        value: 1,
-        fault: None,
-    },
-    Case {
-        good: 5,
-        field: Field::Side,
-        value: 2,
-        fault: Some(0),
-    },
-    Case {
-        good: 5,
-        field: Field::Side,
-        value: 255,
-        fault: Some(0),
-    },
-    Case {
-        good: 5,
-        field: Field::Kind,
-        value: 4,
-        fault: Some(0),
-    },
-    Case {
-        good: 5,
-        field: Field::Number,
-        value: 0,
-        fault: Some(1),
-    },
-    Case {
-        good: 5,
-        field: Field::Participant,
-        value: 0,
-        fault: Some(1),
-    },
-    Case {
-        good: 5,
-        field: Field::Quantity,
-        value: 0,
-        fault: Some(2),
-    },
-    Case {
-        good: 5,
-        field: Field::Quantity,
-        value: 15,
-        fault: Some(2),
-    },
-    Case {
-        good: 5,
-        field: Field::Quantity,
-        value: 1_000_010,
-        fault: Some(2),
-    },
-    Case {
-        good: 5,
-        field: Field::Quantity,
-        value: 1_000_000,
-        fault: None,
-    },
-    Case {
-        good: 5,
-        field: Field::Limit,
-        value: 0,
-        fault: Some(3),
-    },
-    Case {
-        good: 5,
-        field: Field::Limit,
-        value: 1_005,
-        fault: Some(3),
-    },
-    Case {
-        good: 5,
-        field: Field::Limit,
-        value: 1_000_000_010,
-        fault: Some(3),
-    },
-    Case {
-        good: 5,
-        field: Field::Limit,
-        value: 1_000_000_000,
-        fault: None,
-    },
-    Case {
-        good: 5,
-        field: Field::Stop,
-        value: 990,
-        fault: Some(3),
-    },
-    Case {
-        good: 6,
-        field: Field::Stop,
-        value: 0,
-        fault: Some(3),
-    },
-    Case {
-        good: 6,
-        field: Field::Stop,
-        value: 995,
-        fault: Some(3),
-    },
-    Case {
-        good: 6,
-        field: Field::Limit,
-        value: 1_000,
-        fault: Some(3),
-    },
-    Case {
-        good: 7,
-        field: Field::Limit,
-        value: 0,
-        fault: Some(3),
-    },
-    Case {
-        good: 7,
-        field: Field::Stop,
-        value: 0,
-        fault: Some(3),
-    },
-    Case {
-        good: 8,
-        field: Field::Limit,
-        value: 1_000,
-        fault: Some(3),
-    },
-    Case {
-        good: 8,
-        field: Field::Stop,
-        value: 990,
-        fault: Some(3),
-    },
-    Case {
-        good: 5,
-        field: Field::Number,
-        value: 2,
-        fault: Some(4),
-    },
-    Case {
-        good: 8,
-        field: Field::Number,
-        value: 1,
-        fault: Some(4),
-    },
-];
-
 // Entries with ever fewer faults: the first has all of them, and the last but the number of an earlier record.
 static FIRST: [Entry; 5] = [
     Entry {
@@ -238,39 +58,6 @@ static FIRST: [Entry; 5] = [
     },
 ];
 
-fn changed(entry: Entry, field: Field, value: u32) -> Entry {
-    match field {
-        Field::Number => Entry {
-            number: value,
-            ..entry
-        },
-        Field::Participant => Entry {
-            participant: value,
-            ..entry
-        },
-        Field::Side => Entry {
-            side: value,
-            ..entry
-        },
-        Field::Kind => Entry {
-            kind: value,
-            ..entry
-        },
-        Field::Quantity => Entry {
-            quantity: value,
-            ..entry
-        },
-        Field::Limit => Entry {
-            limit: value,
-            ..entry
-        },
-        Field::Stop => Entry {
-            stop: value,
-            ..entry
-        },
-    }
-}
-
 // The entry as the last of three records has this fault, or none.
 fn check_last(rt: &impl Abort, heap: Global, entry: Entry, fault: Option<u8>) -> Result<(), Fail> {
     let expected = match fault {
@@ -282,11 +69,164 @@ fn check_last(rt: &impl Abort, heap: Global, entry: Entry, fault: Option<u8>) ->
     Ok(())
 }
 
+// The good entries: 5 a limit order, 6 a stop market order, 7 a stop limit order, 8 a market order.
 #[test]
 fn each_fault_at_each_field(rt: HostRuntime) -> Result<(), Fail> {
-    for case in CASES.iter() {
-        let entry = changed(good(case.good), case.field, case.value);
-        check_last(&rt, rt.alloc(), entry, case.fault)?;
+    for (entry, fault) in [
+        (
+            Entry {
+                number: 4_294_967_295,
+                ..good(5)
+            },
+            None,
+        ),
+        (
+            Entry {
+                participant: 65_535,
+                ..good(5)
+            },
+            None,
+        ),
+        (Entry { side: 1, ..good(6) }, None),
+        (Entry { side: 2, ..good(5) }, Some(0)),
+        (
+            Entry {
+                side: 255,
+                ..good(5)
+            },
+            Some(0),
+        ),
+        (Entry { kind: 4, ..good(5) }, Some(0)),
+        (
+            Entry {
+                number: 0,
+                ..good(5)
+            },
+            Some(1),
+        ),
+        (
+            Entry {
+                participant: 0,
+                ..good(5)
+            },
+            Some(1),
+        ),
+        (
+            Entry {
+                quantity: 0,
+                ..good(5)
+            },
+            Some(2),
+        ),
+        (
+            Entry {
+                quantity: 15,
+                ..good(5)
+            },
+            Some(2),
+        ),
+        (
+            Entry {
+                quantity: 1_000_010,
+                ..good(5)
+            },
+            Some(2),
+        ),
+        (
+            Entry {
+                quantity: 1_000_000,
+                ..good(5)
+            },
+            None,
+        ),
+        (
+            Entry {
+                limit: 0,
+                ..good(5)
+            },
+            Some(3),
+        ),
+        (
+            Entry {
+                limit: 1_005,
+                ..good(5)
+            },
+            Some(3),
+        ),
+        (
+            Entry {
+                limit: 1_000_000_010,
+                ..good(5)
+            },
+            Some(3),
+        ),
+        (
+            Entry {
+                limit: 1_000_000_000,
+                ..good(5)
+            },
+            None,
+        ),
+        (
+            Entry {
+                stop: 990,
+                ..good(5)
+            },
+            Some(3),
+        ),
+        (Entry { stop: 0, ..good(6) }, Some(3)),
+        (
+            Entry {
+                stop: 995,
+                ..good(6)
+            },
+            Some(3),
+        ),
+        (
+            Entry {
+                limit: 1_000,
+                ..good(6)
+            },
+            Some(3),
+        ),
+        (
+            Entry {
+                limit: 0,
+                ..good(7)
+            },
+            Some(3),
+        ),
+        (Entry { stop: 0, ..good(7) }, Some(3)),
+        (
+            Entry {
+                limit: 1_000,
+                ..good(8)
+            },
+            Some(3),
+        ),
+        (
+            Entry {
+                stop: 990,
+                ..good(8)
+            },
+            Some(3),
+        ),
+        (
+            Entry {
+                number: 2,
+                ..good(5)
+            },
+            Some(4),
+        ),
+        (
+            Entry {
+                number: 1,
+                ..good(8)
+            },
+            Some(4),
+        ),
+    ] {
+        check_last(&rt, rt.alloc(), entry, fault)?;
     }
     Ok(())
 }

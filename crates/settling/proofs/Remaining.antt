@@ -1,21 +1,24 @@
 -- What remains of a list after fills.
-use Rattle.std.proofs.Common.{◌≡◌, ℕ, ◌-◌, ◌<◌, ◌≤◌, true, false, cond, ◌||◌, eqb, List, [], ◌∷◌, ◌++◌, Some, None, sym, refl, ap, ◌∙◌, subst, ⊎_elim, arith}
+use Rattle.std.proofs.Common.{◌≡◌, ℕ, ◌-◌, ◌<◌, ◌≤◌, true, false, cond, ◌||◌, eqb, List, [], ◌∷◌, ◌++◌, length, Some, None, sym, refl, ap, ◌∙◌, subst, ⊎_elim, arith}
 use Rattle.std.proofs.lemmas.List.{append-nil, append_assoc}
 use Rattle.std.proofs.lemmas.List.Sums.{sum_by-append}
-use Rattle.std.proofs.lemmas.Bool.{cases_Bool, cases_lt, and_parts, and_from, or_parts, not-true, not_from_false, eqb-true, eq-eqb, ne_eqb}
+use Rattle.std.proofs.lemmas.Bool.{cases_Bool, cases_lt, and_parts, and_from, or_parts, not-true, not_from_false, eqb-true, eqb-false, eq-eqb, ne_eqb}
 use Rattle.std.proofs.lemmas.Bool.Decides.{nat_tests}
 use Rattle.std.specs.List.{AllByRecursion}
 use Rattle.orders.specs.Ranges.{in_range, with_quantity}
 use Rattle.orders.specs.declared.terms.Terms.{Terms}
 use Rattle.book.proofs.Laws.{found_none}
 use Rattle.book.specs.Figures.{open_in, open_of}
-use Rattle.book.specs.Lists.{held, found, distinct}
+use Rattle.book.specs.Lists.{held, found, distinct, Sound}
 use Rattle.settling.specs.Fills.{shares_for, traded_of, rest_of, remaining, after_fills}
 use Rattle.settling.specs.declared.fill.Fill.{Fill}
 
 -- an order has a share open
 some_open : (t : Terms) → in_range t ≡ true → 0 < t.quantity
 some_open t h = grind (arith, nat_tests)
+
+lower_in_range : (r : ℕ) (t : Terms) → 0 < r → r ≤ t.quantity → in_range t ≡ true → in_range (with_quantity t r) ≡ true
+lower_in_range r t some most h = grind (arith, nat_tests)
 
 -- one order: all of it is traded, some, or nothing
 module _ (fs : List Fill) (t : Terms) where
@@ -107,6 +110,25 @@ module _ (fs : List Fill) where
       let p = and_parts _ (distinct ts) d in
       let rest = distinct_after ts p.1 in
       ⊎_elim (λ e. rw e rest) (λ e. rw e (and_from _ _ (not_from_false _ (held_after t.number ts (not-true _ p.0))) rest)) (cases_Bool (eqb (rest_of fs t) 0))
+
+  ranged_after : (ts : List Terms) → AllByRecursion (λ t. in_range t ≡ true) ts → AllByRecursion (λ t. in_range t ≡ true) (after_fills fs ts)
+  ranged_after [] r = tt
+  ranged_after (t ∷ ts) r =
+      let rest = ranged_after ts r.1 in
+      ⊎_elim (λ e. rw e rest)
+      (λ e.
+      let some : rest_of fs t ≡ 0 → ⊥ = eqb-false (rest_of fs t) 0 e in
+      rw e (lower_in_range (rest_of fs t) t (omega arith) (omega arith) r.0, rest))
+      (cases_Bool (eqb (rest_of fs t) 0))
+
+  pub fills_length : (ts : List Terms) → length (after_fills fs ts) ≤ length ts
+  fills_length [] = omega arith
+  fills_length (t ∷ ts) =
+      let rest = fills_length ts in
+      ⊎_elim (λ e. rw e (omega arith)) (λ e. rw e (omega arith)) (cases_Bool (eqb (rest_of fs t) 0))
+
+  pub fills_sound : (ts : List Terms) → Sound ts → Sound (after_fills fs ts)
+  fills_sound ts s = record { few = omega (arith, fills_length ts, s.few); apart = distinct_after ts s.apart; ranged = ranged_after ts s.ranged }
 
   pub fills_open : (n : ℕ) (ts : List Terms) → distinct ts ≡ true → open_of n (after_fills fs ts) ≡ open_of n ts - traded_of n fs
   fills_open n [] d = omega arith

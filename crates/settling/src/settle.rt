@@ -1,6 +1,7 @@
 // Fills applied to a store.
 ghost use Rattle.std.specs.Prelude.{◌≡◌, ◌-◌, [], ◌∷◌};
 ghost use Rattle.orders.specs.Told.{terms_of};
+ghost use Rattle.book.specs.Calls.{Leaves};
 ghost use Rattle.settling.specs.Conservation.{TradedOrOpen};
 ghost use Rattle.settling.specs.Fills.{after_fills};
 ghost use Rattle.settling.specs.Steps.{lone_fill};
@@ -19,8 +20,7 @@ fn rest_of(order: Order, shares: u32) -> u32
 
 // Takes shares off the order of a number; an order with none left leaves.
 fn take_off<S: Store>(store: &mut S, number: u32, shares: u32)
-    ensures after { S.Book.orders store.new ≡ after_fills (lone_fill number shares ∷ []) (S.Book.orders store.old) }
-    ensures same { S.Store.room store.new ≡ S.Store.room store.old }
+    ensures { Leaves (S.Store.room store.old) (after_fills (lone_fill number shares ∷ []) (S.Book.orders store.old)) (S.Store.room store.new) (S.Book.orders store.new) }
 {
     let Some(order) = find(store, number) else {
         return;
@@ -35,8 +35,7 @@ fn take_off<S: Store>(store: &mut S, number: u32, shares: u32)
 
 // Takes the shares of a fill off the orders that it names, once where both are one.
 fn settle_fill<S: Store>(store: &mut S, fill: Fill)
-    ensures after { S.Book.orders store.new ≡ after_fills (fill ∷ []) (S.Book.orders store.old) }
-    ensures same { S.Store.room store.new ≡ S.Store.room store.old }
+    ensures { Leaves (S.Store.room store.old) (after_fills (fill ∷ []) (S.Book.orders store.old)) (S.Store.room store.new) (S.Book.orders store.new) }
 {
     take_off(store, fill.buyer, fill.quantity);
     if fill.seller != fill.buyer {

@@ -2,6 +2,7 @@
 ghost use Rattle.std.specs.Prelude.{◌≡◌, fold};
 ghost use Rattle.std.specs.Option.{option_map};
 ghost use Rattle.orders.specs.Told.{terms_of};
+ghost use Rattle.book.specs.Calls.{Leaves};
 ghost use Rattle.book.specs.Lists.{Sound};
 ghost use Rattle.pricing.specs.Stops.{triggered_form, after_stops, stop_count};
 ghost use Rattle.settling.specs.Conservation.{OpenAsBefore};
@@ -44,8 +45,7 @@ fn stop_at<B: Book>(book: &B, quote: Quote, number: u32) -> Option<Order>
 
 // Puts a stop that the quote triggers at the end of the list.
 fn move_stop<S: Store>(store: &mut S, quote: Quote, number: u32)
-    ensures after { S.Book.orders store.new ≡ stop_moved quote (S.Book.orders store.old) number }
-    ensures same { S.Store.room store.new ≡ S.Store.room store.old }
+    ensures { Leaves (S.Store.room store.old) (stop_moved quote (S.Book.orders store.old) number) (S.Store.room store.new) (S.Book.orders store.new) }
 {
     let Some(order) = stop_at(store, quote, number) else {
         return;
@@ -55,8 +55,7 @@ fn move_stop<S: Store>(store: &mut S, quote: Quote, number: u32)
 }
 
 fn move_stops<S: Store>(store: &mut S, quote: Quote, numbers: &[u32])
-    ensures after { S.Book.orders store.new ≡ fold (stop_moved quote) (S.Book.orders store.old) numbers.now }
-    ensures same { S.Store.room store.new ≡ S.Store.room store.old }
+    ensures { Leaves (S.Store.room store.old) (fold (stop_moved quote) (S.Book.orders store.old) numbers.now) (S.Store.room store.new) (S.Book.orders store.new) }
 {
     for number in numbers {
         move_stop(store, quote, *number);

@@ -6,6 +6,7 @@ use book::open::OpenFigure;
 use orders::terms::{OrderType, Side, Terms};
 use std::fmt;
 
+// The words of two columns of this tool, which pads them.
 fn side_name(side: Side) -> &'static str {
     match side {
         Side::Buy => "buy",

@@ -17,6 +17,9 @@ use orders::instruction::Instruction;
 use orders::ticket::Ticket;
 use std::alloc::{AllocError, Global};
 
+// What waits in a freeze, oldest first.
+type Held = Vec<Instruction<Ticket>>;
+
 // A call of a freeze is made in it, unless it sends an instruction.
 fn keep(twin: &mut Vec<Call>, call: Call) -> Result<(), AllocError>
     ensures { OnOk result (twin.new.items ≡ twin.old.items ++ kept call) }
@@ -44,11 +47,7 @@ fn end(
 }
 
 // A note in a freeze; what is held after it, or none where it ends the freeze.
-fn in_freeze(
-    twin: &mut Vec<Call>,
-    held: Vec<Instruction<Ticket>>,
-    note: Note,
-) -> Result<Option<Vec<Instruction<Ticket>>>, AllocError>
+fn in_freeze(twin: &mut Vec<Call>, held: Held, note: Note) -> Result<Option<Held>, AllocError>
     ensures { IfOk result (λ now. Noted (delayed.inside held.items) note twin.old.items twin.new.items (where_of now)) }
 {
     let mut held = held;
@@ -76,11 +75,7 @@ fn in_freeze(
 }
 
 // A note outside a freeze; what is held after it, where it begins one.
-fn in_pre_call(
-    heap: Global,
-    twin: &mut Vec<Call>,
-    note: Note,
-) -> Result<Option<Vec<Instruction<Ticket>>>, AllocError>
+fn in_pre_call(heap: Global, twin: &mut Vec<Call>, note: Note) -> Result<Option<Held>, AllocError>
     ensures { IfOk result (λ now. Noted outside note twin.old.items twin.new.items (where_of now)) }
 {
     twin.push(note.call)?;
@@ -93,9 +88,9 @@ fn in_pre_call(
 fn retell(
     heap: Global,
     twin: &mut Vec<Call>,
-    held: Option<Vec<Instruction<Ticket>>>,
+    held: Option<Held>,
     note: Note,
-) -> Result<Option<Vec<Instruction<Ticket>>>, AllocError>
+) -> Result<Option<Held>, AllocError>
     ensures { IfOk result (λ now. Noted (where_of held) note twin.old.items twin.new.items (where_of now)) }
 {
     match held {

@@ -16,14 +16,14 @@ returns-in-Match g c =
     let m = c.in-Match in
     let ts = g.S.Book.orders c.args.store.now in
     let stock = room_of c.args.stock.now.slots.now in
-    let fills : length (take (c.min.result - 0) c.args.filled.now) ≡ min m.fills 256 = omega (arith, length-take (c.min.result - 0) c.args.filled.now, c.requires.0, c.min.ensures) in
-    let receipts : length (take (c.min-in-Match.result - 0) c.args.told.now) ≡ min m.receipts 256 = omega (arith, length-take (c.min-in-Match.result - 0) c.args.told.now, c.requires.1, c.min-in-Match.ensures) in
+    let fills : length (take (c.min.result - 0) c.args.filled.now) ≡ min m.fills 256 = omega (arith, length-take (c.min.result - 0) c.args.filled.now, c.min.ensures) in
+    let receipts : length (take (c.min-in-Match.result - 0) c.args.told.now) ≡ min m.receipts 256 = omega (arith, length-take (c.min-in-Match.result - 0) c.args.told.now, c.min-in-Match.ensures) in
     let fault = (λ i. match_fault (grid_frozen c.args.frozen) stock m.quote (fills i) (receipts i) ts) ∙ capped_fault (grid_frozen c.args.frozen) stock m.quote m.fills m.receipts ts (omega arith) (g.met.S.Store.sound c.args.store.now).few in
     rw c.in-Match.is (more_fills _ (more_receipts _ (c.match_over.ensures m.fills m.receipts fault)))
 
 pub returns-in-Lift : goal.returns-in-Lift
 returns-in-Lift g c =
     let stock = room_of c.args.stock.now.slots.now in
-    let entries : length (take (c.min-in-Lift.result - 0) c.args.told.now) ≡ min c.in-Lift.receipts 256 = omega (arith, length-take (c.min-in-Lift.result - 0) c.args.told.now, c.requires.1, c.min-in-Lift.ensures) in
+    let entries : length (take (c.min-in-Lift.result - 0) c.args.told.now) ≡ min c.in-Lift.receipts 256 = omega (arith, length-take (c.min-in-Lift.result - 0) c.args.told.now, c.min-in-Lift.ensures) in
     let fault = ap (λ n. entries_fault n stock) entries ∙ capped_entries c.in-Lift.receipts stock (omega arith) in
     rw c.in-Lift.is (more_receipts _ (c.lift_over.ensures c.in-Lift.receipts c.args.filled.now fault))

@@ -14,11 +14,11 @@ returns-then-fills-count-clause-buys_by_priority g c = by_priority _ _ _ c.count
 pub returns-then-fills-count-clause-sells_by_priority : goal.returns-then-fills-count-clause-sells_by_priority
 returns-then-fills-count-clause-sells_by_priority g c = by_priority _ _ _ c.count.ensures.sound Sell
 
-pub pair-requires-clause-room : goal.pair-requires-clause-room
-pair-requires-clause-room g c =
+pub pair-requires : goal.pair-requires
+pair-requires g c =
     let q = c.args.quote in
     let ts = g.B.Book.orders c.args.book.now in
-    let same : paired c.args.price c.deref.result.now c.deref-2.result.now ≡ fills_at q.quote ts c.args.price = cc in
+    let same : paired c.args.price c.of-buys.result.list.items c.of-sells.result.list.items ≡ fills_at q.quote ts c.args.price = cc in
     omega (arith, fills_few q.quote ts c.args.price q.apart, ap length same, c.if-fills-count.false, c.count.ensures.value)
 
 pub returns-clause-adds_up : goal.returns-clause-adds_up

@@ -12,7 +12,7 @@ open_sell : (c : In-Some) → c.loop-open.taken < c.in-Some.sell.now.quantity
 open_sell c = not_taken c.loop-open.rest.now c.loop-open.taken c.in-Some.sell.now c.in-Some.behind.now c.in-Some.ensures.cases.0 c.loop-open.open _ c.loop-open.left c.loop-open.invariant.1
 
 -- the turn, once its quantity is known
-the_turn : (c : After-min-quantity) → let b = get_or c.args.buys.now c.auction.buy-index nobody in let rest = drop (c.auction.buy-index + 1) c.args.buys.now in Turned c.auction.count c.auction.fills (paired c.args.price (b ∷ rest) (lessened c.auction.taken c.auction.rest.now)) c.args.price b.number c.loop-open.open rest (sell c.loop-open.rest.now c.loop-open.taken c.in-Some.sell.now c.in-Some.behind.now c.in-Some.ensures.cases.0) c.in-Some.behind.now c.loop-open.count c.loop-open.fills c.loop-open.left c.min-quantity.result
+the_turn : (c : After-min-quantity) → let b = get_or c.as_slice-buy-items.result.now c.auction.buy-index nobody in let rest = drop (c.auction.buy-index + 1) c.as_slice-buy-items.result.now in Turned c.auction.count c.auction.fills (paired c.args.price (b ∷ rest) (lessened c.auction.taken c.auction.rest.now)) c.args.price b.number c.loop-open.open rest (sell c.loop-open.rest.now c.loop-open.taken c.in-Some.sell.now c.in-Some.behind.now c.in-Some.ensures.cases.0) c.in-Some.behind.now c.loop-open.count c.loop-open.fills c.loop-open.left c.min-quantity.result
 the_turn c =
     turned c.loop-open.rest.now c.loop-open.taken c.in-Some.sell.now c.in-Some.behind.now c.in-Some.ensures.cases.0 c.args.price _ c.loop-open.open _ c.loop-open.count c.loop-open.fills c.loop-open.left c.min-quantity.result c.loop-open-test.true c.min-quantity.ensures c.loop-open.invariant.0 c.loop-open.invariant.1
 
@@ -28,10 +28,10 @@ loop-open-preserved c =
 
 pub returns-in_default : goal.returns-in_default
 returns-in_default c =
-    let bs = interest (get_or c.args.buys.now c.auction.buy-index nobody).number c.loop-open.open ∷ drop (c.auction.buy-index + 1) c.args.buys.now in
-    finished (through c.args.price c.args.buys.now c.auction.buy-index nobody _ c.auction-test.true c.auction.invariant.0 (none_to_sell c.args.price bs c.loop-open.rest.now c.loop-open.taken c.loop-open.count c.loop-open.fills c.in_default.ensures.cases c.loop-open.invariant.0))
+    let bs = interest (get_or c.as_slice-buy-items.result.now c.auction.buy-index nobody).number c.loop-open.open ∷ drop (c.auction.buy-index + 1) c.as_slice-buy-items.result.now in
+    finished (through c.args.price c.as_slice-buy-items.result.now c.auction.buy-index nobody _ c.auction-test.true c.auction.invariant.0 (none_to_sell c.args.price bs c.loop-open.rest.now c.loop-open.taken c.loop-open.count c.loop-open.fills c.in_default.ensures.cases c.loop-open.invariant.0))
 
 pub returns-then-left-eq0 : goal.returns-then-left-eq0
 returns-then-left-eq0 c =
     let t = the_turn (goal.at.returns-then-left-eq0 c).After-min-quantity in
-    finished (through c.args.price c.args.buys.now c.auction.buy-index nobody _ c.auction-test.true c.auction.invariant.0 (all_used t c.if-left-eq0.true))
+    finished (through c.args.price c.as_slice-buy-items.result.now c.auction.buy-index nobody _ c.auction-test.true c.auction.invariant.0 (all_used t c.if-left-eq0.true))

@@ -53,7 +53,7 @@ returns c =
     let some = finds (goal.at.returns c).After-index in
     let may = (given _ _ _ c.in-Some-lowered.ensures).0 in
     let w = written (goal.at.returns c).After-refill in
-    record { value = rw (some, may); after = rw (some, may) (list_is w); kept = kept w }
+    record { value = rw (some, may); after = rw (some, may) (list_is w); kept = kept w c.args.self.now.capacity (λ i. c.args.self.now.capacity) }
 
 pub returns-in_default-lowered : goal.returns-in_default-lowered
 returns-in_default-lowered c =

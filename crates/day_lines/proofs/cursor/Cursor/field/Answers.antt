@@ -5,4 +5,4 @@ pub returns : goal.returns
 returns c =
     let cursor = c.args.self.now in
     let here = token_at cursor.line.now cursor.at _ cursor.inside c.first.ensures.token in
-    record { token = here.0; place = c.first.ensures.place; form = c.first.ensures.form; within = here.1 }
+    record { token = here.0; place = c.first.ensures.place; within = here.1 }
