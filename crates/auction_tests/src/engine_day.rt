@@ -125,6 +125,7 @@ fn end<S: Store>(phase: Phase, store: &mut S, stock: &mut LockedStock<'_>) {
     }
 }
 
+// The book holds what is reckoned, in this sequence.
 fn has_book<B: Book>(book: &B, reckoned: &[Resting]) -> bool {
     book.count() == reckoned.len()
         && reckoned.iter().enumerate().all(|(place, order)| book.order_at(place)

@@ -16,6 +16,7 @@ fn order(number: u32, quantity: u32) -> Result<Order, Fail> {
 }
 
 // The book holds these numbers with these open quantities, in this sequence.
+// Said here and not shared: a shared one would need a contract for how a test fails.
 fn check_book<B: Book>(rt: &impl Abort, book: &B, expected: &[(u32, u32)]) -> Result<(), Fail> {
     assert_eq!(rt; book.count(), expected.len());
     for (place, (number, quantity)) in expected.iter().enumerate() {

@@ -9,6 +9,7 @@ use row_table::table::RowTable;
 use std::alloc::Global;
 use std::test::Fail;
 
+// Said here and not shared: a shared one would need a contract for how a test fails.
 pub(crate) fn book_of(heap: Global, orders: &[Terms]) -> Result<RowTable, Fail> {
     let mut book = RowTable::new(heap, 256)?;
     for terms in orders {

@@ -5,6 +5,7 @@ use orders::terms::Terms;
 use std::process::Abort;
 use std::test::Fail;
 
+// Fills a store. Each test crate says its few lines on a book itself: shared, they would need contracts for how a test fails.
 pub(crate) fn enter<S: Store>(store: &mut S, orders: &[Terms]) -> Result<(), Fail> {
     for terms in orders {
         let order = Order::new(*terms).ok_or_else(|| Fail::new("out of range"))?;
