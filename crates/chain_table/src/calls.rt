@@ -15,6 +15,9 @@ impl Book for ChainTable {
     }
 
     fn order_at(&self, place: usize) -> Option<Order> {
+        if place >= self.count {
+            return None;
+        }
         let (_, order) = self.rows_in_use().nth(place)?;
         Some(order)
     }

@@ -1,13 +1,20 @@
-use Rattle.std.proofs.Common.{◌≡◌, option_map, slice_get, ap, sym, ◌∙◌}
+use Rattle.std.proofs.Common.{◌≡◌, option_map, slice_get, ap, sym, ◌∙◌, arith}
 use Rattle.std.proofs.lemmas.Iterator.Consumers.{YieldsList-from_first, nth_from_yields_List}
+use Rattle.std.proofs.lemmas.Option.{slice_get_past}
 use Rattle.orders.specs.Told.{terms_of}
 use Rattle.chain_table.specs.Chains.{terms_at}
 use Rattle.chain_table.specs.Rows.{rows_of}
 use Rattle.chain_table.specs.Steps.{path_of, row_and_terms}
 use Rattle.chain_table.specs.Kept.{table_kept}
+use Rattle.chain_table.proofs.Intact.{rows_length}
 use Rattle.chain_table.proofs.Seeks.{placed}
 use Rattle.chain_table.proofs.calls.ChainTableBook.order_at.Goals as goal
 use Rattle.chain_table.proofs.calls.ChainTableBook.order_at.Goals.{After-nth}
+
+pub returns-then-place-self : goal.returns-then-place-self
+returns-then-place-self c =
+    let t = c.args.self.now in
+    record { value = sym (slice_get_past (rows_of t) c.args.place (omega (arith, rows_length t))); sound = (table_kept t).sound }
 
 -- what was read
 read : (c : After-nth) → option_map (λ p. p.1) (option_map row_and_terms c.nth.result) ≡ slice_get (rows_of c.args.self.now) c.args.place
