@@ -9,7 +9,7 @@ use Rattle.book.specs.Calls.{Kept}
 use Rattle.book.specs.Lists.{distinct}
 use Rattle.chain_table.specs.Chains.{spot, next, prev, terms_at, walk, used_rows, free_rows, rows_told, linked_both_ways, among, no_row_twice, all_below}
 use Rattle.chain_table.specs.Rows.{rows_of}
-use Rattle.chain_table.specs.Steps.{path_of, Spot}
+use Rattle.chain_table.specs.Steps.{path_of, Spot, Node}
 use Rattle.chain_table.specs.declared.chain.Chain.{Chain}
 use Rattle.chain_table.specs.declared.table.ChainTable.{ChainTable}
 use Rattle.chain_table.proofs.Indices.{all_parts, all_among, Below, from_below, to_below}
@@ -56,15 +56,25 @@ opened t =
     }
 
 -- one of some rows or the end
-pub on_spot : (c : Chain) (i : ℕ) (xs : List ℕ) → vec_len c.rows ≤ 256 → Below (vec_len c.rows) xs → among i (256 ∷ xs) ≡ true → Spot c i
-on_spot c i xs few b h n = ⊎_elim (λ k. absurd (n (sym (eqb-true 256 i k)))) (λ k. let l = all_among (λ x. x < vec_len c.rows) i xs b k in omega arith) (or_cases (256 == i) (among i xs) h)
+pub on_row : (c : Chain) (i : ℕ) (xs : List ℕ) → Below (vec_len c.rows) xs → among i (256 ∷ xs) ≡ true → Spot c i
+on_row c i xs b h n = ⊎_elim (λ k. absurd (n (sym (eqb-true 256 i k)))) (λ k. all_among (λ x. x < vec_len c.rows) i xs b k) (or_cases (256 == i) (among i xs) h)
+
+-- where there are at most 256 rows, the index of each tells it
+near : (c : Chain) (i : ℕ) → vec_len c.rows ≤ 256 → Spot c i → Node c i
+near c i few s n = let l = s n in omega arith
+
+pub on_spot : (c : Chain) (i : ℕ) (xs : List ℕ) → vec_len c.rows ≤ 256 → Below (vec_len c.rows) xs → among i (256 ∷ xs) ≡ true → Node c i
+on_spot c i xs few b h = near c i few (on_row c i xs b h)
 
 module _ {c : Chain} {count free capacity : ℕ} {xs sp : List ℕ} {ts : List Terms} (s : Intact c count free capacity xs sp ts) where
   pub below : Below (vec_len c.rows) xs
   below = (all_parts (λ x. x < vec_len c.rows) xs sp s.present).0
 
   pub last_spot : Spot c (prev c 256)
-  last_spot = on_spot c (prev c 256) xs (omega (arith, s.most, s.within)) below (last_among (next c) (prev c) 256 xs 256 s.link)
+  last_spot = on_row c (prev c 256) xs below (last_among (next c) (prev c) 256 xs 256 s.link)
+
+  pub last_node : Node c (prev c 256)
+  last_node = near c (prev c 256) (omega (arith, s.most, s.within)) last_spot
 
 module _ {c : Chain} {count free capacity : ℕ} {ts : List Terms} (h : Holding c count free capacity ts) where
   path_is : used_rows c count ≡ h.used

@@ -1,6 +1,6 @@
-mod Indices
-mod Walks
-mod Intact
+pub mod Indices
+pub mod Walks
+pub mod Intact
 mod Spots
 mod Rests
 mod Seeks

@@ -6,7 +6,7 @@ use Rattle.std.proofs.lemmas.Bool.{or_from, ne_eqb}
 use Rattle.orders.specs.declared.terms.Terms.{Terms}
 use Rattle.book.specs.Lists.{distinct}
 use Rattle.chain_table.specs.Chains.{spot, links_at, next, prev, terms_at, walk, among, no_row_twice}
-use Rattle.chain_table.specs.Steps.{Spot, Led, Relinked, Joined, Refilled, Pushed}
+use Rattle.chain_table.specs.Steps.{Node, Led, Relinked, Joined, Refilled, Pushed}
 use Rattle.chain_table.specs.declared.chain.Chain.{Chain}
 use Rattle.chain_table.specs.declared.chain.Links.{Links}
 use Rattle.chain_table.proofs.Indices.{other, among_parts, once_from, once_front, once_out, once_in, once_sides, all_parts, past_off, Below}
@@ -35,10 +35,10 @@ module _ {c : Chain} {count free capacity : ℕ} (xs : List ℕ) (i : ℕ) (ys s
   pub row_made : i < vec_len c.rows
   row_made = split.1.0
 
-  pub before_spot : Spot c (prev c i)
+  pub before_spot : Node c (prev c i)
   before_spot = on_spot c (prev c i) xs (omega (arith, s.most, s.within)) split.0 (last_among (next c) (prev c) 256 xs i (linked_split (next c) (prev c) 256 xs i ys 256 s.link).0)
 
-  pub after_spot : Spot c (next c i)
+  pub after_spot : Node c (next c i)
   after_spot = on_spot c (next c i) ys (omega (arith, s.most, s.within)) (all_parts (λ x. x < vec_len c.rows) ys sp split.1.1).0 (first_among (next c) (prev c) i ys 256 (linked_split (next c) (prev c) 256 xs i ys 256 s.link).1)
 
   -- it leaves the chain, and is the first free row

@@ -8,7 +8,7 @@ use Rattle.book.proofs.Laws.{distinct_push, distinct_without, distinct_lowered}
 use Rattle.book.specs.Lists.{held, found, without, lowered, distinct}
 use Rattle.chain_table.specs.Chains.{spot, links_at, next, prev, terms_at, told_by, walk, free_rows, among, no_row_twice}
 use Rattle.chain_table.specs.Rows.{rows_of}
-use Rattle.chain_table.specs.Steps.{path_of, rest_from, told_in, row_holding, Holds, Spot, Relinked, Joined, Refilled, Pushed}
+use Rattle.chain_table.specs.Steps.{path_of, rest_from, told_in, row_holding, Holds, Node, Relinked, Joined, Refilled, Pushed}
 use Rattle.chain_table.specs.declared.chain.Chain.{Chain}
 use Rattle.chain_table.specs.declared.chain.Links.{Links}
 use Rattle.chain_table.specs.declared.chain.Row.{Row}
@@ -76,10 +76,10 @@ module _ {t : ChainTable} {n at : ℕ} (h : Holds t n at) where
   pub used_made : at < vec_len t.chain.rows
   used_made = row_made seen_at.front at seen_at.back (spare_of t) split_at
 
-  pub used_before : Spot t.chain (prev t.chain at)
+  pub used_before : Node t.chain (prev t.chain at)
   used_before = before_spot seen_at.front at seen_at.back (spare_of t) split_at
 
-  pub used_after : Spot t.chain (next t.chain at)
+  pub used_after : Node t.chain (next t.chain at)
   used_after = after_spot seen_at.front at seen_at.back (spare_of t) split_at
 
   used_few : at < 256
@@ -128,7 +128,7 @@ module _ (t : ChainTable) (h : t.count < vec_len t.chain.rows) where
       let e : vec_len t.chain.rows - t.count ≡ suc (vec_len t.chain.rows - t.count - 1) = omega arith in
       subst (λ l. Intact t.chain t.count (spot t.free) t.capacity (path_of t) l (rows_of t)) (ap (λ k. walk (next t.chain) k (spot t.free)) e) (opened t)
 
-  free_made : spot t.free < vec_len t.chain.rows
+  pub free_made : spot t.free < vec_len t.chain.rows
   free_made = (all_parts (λ i. i < vec_len t.chain.rows) (path_of t) (spot t.free ∷ rest) first_free.present).1.0
 
   module _ {at : ℕ} (f : t.free ≡ Some at) where

@@ -46,7 +46,11 @@ rest_from i (x ∷ xs) = cond (x == i) (x ∷ xs) (rest_from i xs)
 
 -- a row or the end
 abbrev pub Spot : Chain → ℕ → Type 0
-Spot c i = (i ≢ 256) → i < min (vec_len c.rows) 256
+Spot c i = (i ≢ 256) → i < vec_len c.rows
+
+-- a row that its index tells, so one below 256, or the end
+abbrev pub Node : Chain → ℕ → Type 0
+Node c i = (i ≢ 256) → i < min (vec_len c.rows) 256
 
 -- as many rows with the same terms
 pub record SameOrders (c d : Chain) : Type 0 where

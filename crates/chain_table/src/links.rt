@@ -2,7 +2,7 @@
 ghost use Rattle.std.specs.Prelude.{◌≡◌, ◌<◌, vec_len, vec_capacity};
 ghost use Rattle.orders.specs.Told.{terms_of};
 ghost use Rattle.chain_table.specs.Chains.{spot, links_at};
-ghost use Rattle.chain_table.specs.Steps.{Spot, Relinked, Joined, Refilled, Pushed};
+ghost use Rattle.chain_table.specs.Steps.{Node, Relinked, Joined, Refilled, Pushed};
 
 use crate::chain::{Chain, Links, Row};
 use orders::order::Order;
@@ -11,7 +11,7 @@ use orders::order::Order;
 impl Chain {
     // The neighbours of a row, or of the end.
     pub(crate) fn neighbours(&self, at: Option<usize>) -> Links
-        requires { Spot self.now (spot at) }
+        requires { Node self.now (spot at) }
         ensures { result ≡ links_at self.now (spot at) }
     {
         match at {
@@ -21,7 +21,7 @@ impl Chain {
     }
 
     pub(crate) fn relink(&mut self, at: Option<usize>, links: Links)
-        requires { Spot self.old (spot at) }
+        requires { Node self.old (spot at) }
         ensures { Relinked self.old self.new (spot at) links }
     {
         match at {
@@ -32,8 +32,8 @@ impl Chain {
 
     // Makes `b` follow `a`.
     pub(crate) fn join(&mut self, a: Option<usize>, b: Option<usize>)
-        requires first { Spot self.old (spot a) }
-        requires second { Spot self.old (spot b) }
+        requires first { Node self.old (spot a) }
+        requires second { Node self.old (spot b) }
         ensures { Joined self.old self.new (spot a) (spot b) }
     {
         let before = self.neighbours(a).before;

@@ -2,7 +2,7 @@ use Rattle.std.proofs.Common.{◌-◌, Some, sym, refl, subst, arith}
 use Rattle.book.specs.Lists.{without}
 use Rattle.chain_table.specs.Chains.{spot}
 use Rattle.chain_table.specs.Rows.{rows_of}
-use Rattle.chain_table.specs.Steps.{number_in, Spot}
+use Rattle.chain_table.specs.Steps.{number_in, Node}
 use Rattle.chain_table.proofs.Intact.{Holding, closed, list_is}
 use Rattle.chain_table.proofs.Spots.{spot_row}
 use Rattle.chain_table.proofs.Tables.{used_made, used_before, used_after, read_links, released}
@@ -16,7 +16,7 @@ pub join-requires : goal.join-requires
 join-requires c =
     let t = c.args.self.now in
     let e = sym (read_links c.requires c.index.ensures) in
-    record { first = subst (λ l. Spot t.chain (spot l.before)) e (used_before c.requires); second = subst (λ l. Spot t.chain (spot l.after)) e (used_after c.requires) }
+    record { first = subst (λ l. Node t.chain (spot l.before)) e (used_before c.requires); second = subst (λ l. Node t.chain (spot l.after)) e (used_after c.requires) }
 
 pub relink-requires : goal.relink-requires
 relink-requires c =
