@@ -34,7 +34,7 @@ impl Store for RowTable {
         if self.place_of(order.terms().number).is_some() {
             return Err(Refusal::NumberHeld);
         }
-        if self.count() == self.capacity {
+        if self.rows.len() == self.capacity {
             return Err(Refusal::BookFull);
         }
         self.rows.push_reserved(order);

@@ -21,11 +21,11 @@ returns-then-is_some c =
     let h = told (goal.at.returns-then-is_some c).After-is_some ∙ c.if-is_some.true in
     record { value = rw h; after = rw h; kept = table_kept c.args.self.now }
 
-pub returns-then-count-self : goal.returns-then-count-self
-returns-then-count-self c =
+pub returns-then-len-self : goal.returns-then-len-self
+returns-then-len-self c =
     let t = c.args.self.now in
-    let h = told (goal.at.returns-then-count-self c).After-is_some ∙ c.if-is_some.false in
-    let full : eqb (length (rows_of t)) t.capacity ≡ true = eq-eqb _ _ (omega arith) in
+    let h = told (goal.at.returns-then-len-self c).After-is_some ∙ c.if-is_some.false in
+    let full : eqb (length (rows_of t)) t.capacity ≡ true = eq-eqb _ _ (omega (arith, rows_length t.rows)) in
     record { value = rw (h, full); after = rw (h, full); kept = table_kept t }
 
 -- the rows after the push
