@@ -4,7 +4,7 @@ use Rattle.std.proofs.Math.Numerals.{one-add}
 use Rattle.std.proofs.lemmas.List.{take-map, drop-map, map-append, length-map, get_or-map, map-set, drop_more}
 use Rattle.std.proofs.lemmas.List.Folds.{find_at}
 use Rattle.std.proofs.lemmas.Option.{slice_get-map, slice_get-get_or, slice_get_past}
-use Rattle.std.proofs.lemmas.Bool.{ltb-true, ltb-false, lt-ltb, cases_Bool, eq-eqb, ne_eqb}
+use Rattle.std.proofs.lemmas.Bool.{ltb-true, ltb-false, lt-ltb, le-ltb, cases_Bool, eq-eqb, ne_eqb}
 use Rattle.std.proofs.lemmas.Bool.Decides.{nat_tests}
 use Rattle.std.specs.List.{position_or_len}
 use Rattle.std.specs.declared.alloc.Global.{Global}
@@ -13,13 +13,13 @@ use Rattle.orders.specs.Told.{terms_of}
 use Rattle.orders.specs.declared.order.Order.{Order}
 use Rattle.orders.specs.declared.terms.Terms.{Terms}
 use Rattle.book.proofs.General.{given, withheld}
-use Rattle.book.proofs.Laws.{without_none, not_held}
+use Rattle.book.proofs.Laws.{without_none}
 use Rattle.book.proofs.Reading.{Stands}
 use Rattle.book.specs.Lists.{held, found, without, lowered}
 use Rattle.row_table.specs.Rows.{place_of}
 
 -- the place of a number: the first row that has it
-abbrev first_of : ℕ → List Terms → ℕ
+abbrev pub first_of : ℕ → List Terms → ℕ
 first_of n = position_or_len (λ t. t.number == n)
 
 pub place_some : (n i : ℕ) (ts : List Terms) → Some i ≡ place_of n ts → (i ≡ first_of n ts) × (i < length ts)
@@ -38,7 +38,10 @@ place_here n s e = ap (first_of n) s.first ∙ rw (eq-eqb _ _ e)
 pub place_next : {ts : List Terms} {i : ℕ} {t : Terms} (n : ℕ) → Stands ts i t → (t.number ≢ n) → first_of n (drop i ts) ≡ suc (first_of n (drop (i + 1) ts))
 place_next n s e = ap (first_of n) s.first ∙ rw (ne_eqb _ _ e) (one-add _)
 
--- by that place an order is left out and lowered
+-- by that place an order is found, left out and lowered
+pub found_at : (n : ℕ) (ts : List Terms) → found n ts ≡ slice_get ts (first_of n ts)
+found_at n ts = find_at (λ t. t.number == n) ts
+
 pub without_at : (n : ℕ) (ts : List Terms) → without n ts ≡ remove ts (first_of n ts)
 without_at n [] = refl
 without_at n (t ∷ ts) =
@@ -84,38 +87,47 @@ rows_length v = v.ok.0 ∙ sym (length-map (vec_items v) terms_of)
 map_removed : {X Y : Type 0} (f : X → Y) (xs : List X) (i : ℕ) → map f (remove xs i) ≡ remove (map f xs) i
 map_removed f xs i = map-append f (take i xs) (drop (suc i) xs) ∙ simp (take-map f, drop-map f)
 
-row_read : (xs : List Order) (i : ℕ) (o : Order) → i < length xs → o ≡ slice_index_or xs i o → Some (terms_of o) ≡ slice_get (map terms_of xs) i
+pub row_read : (xs : List Order) (i : ℕ) (o : Order) → i < length xs → o ≡ slice_index_or xs i o → Some (terms_of o) ≡ slice_get (map terms_of xs) i
 row_read xs i o h e = sym (slice_get-map terms_of xs i ∙ ap (option_map terms_of) (slice_get-get_or xs i o h ∙ ap Some (sym e)))
 
 -- the row o stands at the place i of the number n
 pub record Found (n : ℕ) (xs : List Order) (i : ℕ) (o : Order) : Type 0 where
-  pub place : Some i ≡ place_of n (map terms_of xs)
+  pub place : i ≡ first_of n (map terms_of xs)
+  pub within : i < length xs
   pub is : o ≡ slice_index_or xs i o
 
-module _ {n : ℕ} {xs : List Order} {i : ℕ} {o : Order} (f : Found n xs i o) where
-  pub row_found : Some (terms_of o) ≡ found n (map terms_of xs)
-  row_found =
-      let h = place_some n i (map terms_of xs) f.place in
-      let l = length-map xs terms_of in
-      row_read xs i o (omega (arith, h.1, l)) f.is ∙ ap (slice_get (map terms_of xs)) h.0 ∙ sym (find_at (λ t. t.number == n) (map terms_of xs))
+-- so does the row that was read at the place that a search told
+pub row_placed : {n : ℕ} {xs : List Order} {i : ℕ} {o : Order} → Some i ≡ place_of n (map terms_of xs) → o ≡ slice_index_or xs i o → Found n xs i o
+row_placed {n} {xs} {i} e is =
+    let h = place_some n i (map terms_of xs) e in
+    record { place = h.0; within = omega (arith, h.1, length-map xs terms_of); is = is }
 
-  pub row_removed : map terms_of (remove xs i) ≡ without n (map terms_of xs)
-  row_removed = map_removed terms_of xs i ∙ ap (remove (map terms_of xs)) (place_some n i (map terms_of xs) f.place).0 ∙ sym (without_at n (map terms_of xs))
+pub row_found : {n : ℕ} {xs : List Order} {i : ℕ} {o : Order} → Found n xs i o → Some (terms_of o) ≡ found n (map terms_of xs)
+row_found {n} {xs} {i} {o} f =
+    row_read xs i o f.within f.is ∙ ap (slice_get (map terms_of xs)) f.place ∙ sym (found_at n (map terms_of xs))
 
-  pub row_lowered : (q : ℕ) (p : Order) → terms_of p ≡ with_quantity (terms_of o) q → map terms_of (slice_set xs i p) ≡ lowered n q (map terms_of xs)
-  row_lowered q p e =
-      let all = map terms_of xs in
-      let h = place_some n i all f.place in
-      let l = length-map xs terms_of in
-      let here : get_or all i (terms_of o) ≡ terms_of o = get_or-map terms_of xs i o (terms_of o) (omega (arith, h.1, l)) ∙ ap terms_of (sym f.is) in
-      map-set terms_of xs i p
-      ∙ ap (set all i) (e ∙ ap (λ t. with_quantity t q) (sym here))
-      ∙ ap (λ k. set all k (with_quantity (slice_index_or all k (terms_of o)) q)) h.0
-      ∙ sym (lowered_at n q all (terms_of o))
+pub row_removed : {n : ℕ} {xs : List Order} {i : ℕ} {o : Order} → Found n xs i o → map terms_of (remove xs i) ≡ without n (map terms_of xs)
+row_removed {n} {xs} {i} f = map_removed terms_of xs i ∙ ap (remove (map terms_of xs)) f.place ∙ sym (without_at n (map terms_of xs))
+
+pub row_lowered : {n : ℕ} {xs : List Order} {i : ℕ} {o : Order} (q : ℕ) (p : Order) → Found n xs i o → terms_of p ≡ with_quantity (terms_of o) q → map terms_of (slice_set xs i p) ≡ lowered n q (map terms_of xs)
+row_lowered {n} {xs} {i} {o} q p f e =
+    let ts = map terms_of xs in
+    let here : get_or ts i (terms_of o) ≡ terms_of o = get_or-map terms_of xs i o (terms_of o) f.within ∙ ap terms_of (sym f.is) in
+    map-set terms_of xs i p
+    ∙ ap (set ts i) (e ∙ ap (λ t. with_quantity t q) (sym here))
+    ∙ ap (λ k. set ts k (with_quantity (slice_index_or ts k (terms_of o)) q)) f.place
+    ∙ sym (lowered_at n q ts (terms_of o))
 
 -- no row has the number
-pub not_found : (n : ℕ) (ts : List Terms) → None ≡ place_of n ts → None ≡ found n ts
-not_found n ts e = sym (find_at (λ t. t.number == n) ts ∙ slice_get_past ts (first_of n ts) (place_none n ts e))
+pub not_found : (n : ℕ) (ts : List Terms) → length ts ≤ first_of n ts → None ≡ found n ts
+not_found n ts h = sym (found_at n ts ∙ slice_get_past ts (first_of n ts) h)
 
-pub not_removed : (n : ℕ) (ts : List Terms) → None ≡ place_of n ts → ts ≡ without n ts
-not_removed n ts e = sym (without_none n ts (not_held n ts (sym (not_found n ts e))))
+pub not_removed : (n : ℕ) (ts : List Terms) → length ts ≤ first_of n ts → ts ≡ without n ts
+not_removed n ts h = sym (without_none n ts (held_at n ts ∙ le-ltb _ _ h))
+
+-- nor where the search for its place told none
+pub none_found : (n : ℕ) (ts : List Terms) → None ≡ place_of n ts → None ≡ found n ts
+none_found n ts e = not_found n ts (place_none n ts e)
+
+pub none_removed : (n : ℕ) (ts : List Terms) → None ≡ place_of n ts → ts ≡ without n ts
+none_removed n ts e = not_removed n ts (place_none n ts e)

@@ -7,23 +7,23 @@ use Rattle.book.proofs.Laws.{distinct_lowered}
 use Rattle.book.specs.Lists.{lowered, distinct}
 use Rattle.row_table.specs.Rows.{rows_of}
 use Rattle.row_table.specs.Kept.{rows_kept, table_kept}
-use Rattle.row_table.proofs.Places.{Found, row_found, row_lowered, not_found}
+use Rattle.row_table.proofs.Places.{Found, row_placed, row_found, row_lowered, none_found}
 use Rattle.row_table.proofs.calls.RowTableStore.lower.Goals as goal
 use Rattle.row_table.proofs.calls.RowTableStore.lower.Goals.{After-index}
 
 at_place : (c : After-index) → Found c.args.number (vec_items c.args.self.now.rows) c.in-Some.place c.index.result.now
-at_place c = record { place = c.in-Some.ensures; is = c.index.ensures }
+at_place c = row_placed c.in-Some.ensures c.index.ensures
 
 pub returns-in_default : goal.returns-in_default
 returns-in_default c =
     let t = c.args.self.now in
-    let none = sym (not_found c.args.number (rows_of t) c.in_default.ensures) in
+    let none = sym (none_found c.args.number (rows_of t) c.in_default.ensures) in
     record { value = rw none; after = rw none; kept = table_kept t }
 
 -- the rows after the write
 written : (i : After-index) (p : Order) → terms_of p ≡ with_quantity (terms_of i.index.result.now) i.args.quantity →
     map terms_of (set (vec_items i.args.self.now.rows) i.in-Some.place p) ≡ lowered i.args.number i.args.quantity (rows_of i.args.self.now)
-written i p e = row_lowered (at_place i) i.args.quantity p e
+written i p e = row_lowered i.args.quantity p (at_place i) e
 
 apart : (i : After-index) (p : Order) → terms_of p ≡ with_quantity (terms_of i.index.result.now) i.args.quantity →
     distinct (map terms_of (set (vec_items i.args.self.now.rows) i.in-Some.place p)) ≡ true
