@@ -34,7 +34,7 @@ impl<'a> Iterator for RowsInUse<'a> {
 
     fn next(&mut self) -> Option<(usize, Order)> {
         let at = self.next?;
-        let row = self.table.chain.rows[at];
+        let row = &self.table.chain.rows[at];
         self.next = row.links.after;
         Some((at, row.order))
     }
