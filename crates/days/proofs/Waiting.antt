@@ -12,23 +12,18 @@ use Rattle.orders.specs.declared.terms.Terms.{Terms}
 use Rattle.orders.specs.declared.ticket.Ticket.{Ticket}
 use Rattle.waiting_line.specs.Lines.{waiting, room_of, slot_at, is_full}
 use Rattle.waiting_line.specs.declared.line.WaitingLine.{WaitingLine}
+use Rattle.instructions.specs.declared.effect.Effect.{Effect}
 use Rattle.locked_stock.specs.Holding.{held_in, slots_of, Joined, HeldBy}
 use Rattle.engine.specs.Freezes.{admitted_to}
 use Rattle.days.specs.Counts.{stops_in, fills_in, receipts_in}
-use Rattle.days.specs.Days.{in_freeze, waits}
-use Rattle.days.specs.Steps.{StockKept, told_waiting, CarriedOut}
+use Rattle.days.specs.Days.{answer_of, in_freeze, waits}
+use Rattle.days.specs.Steps.{Bare, StockKept, told_waiting, CarriedOut}
 use Rattle.days.specs.Journals.{entry_with}
 use Rattle.settling.specs.declared.fill.Fill.{Fill}
 use Rattle.locked_stock.specs.declared.receipt.Receipt.{Receipt}
 use Rattle.days.specs.declared.answer.Answer.{Answer}
 use Rattle.days.specs.declared.answer.Answer.TheVariants.{Held, Refused}
 use Rattle.days.specs.declared.call.Call.TheVariants.{Send}
-
--- an answer that tells of nothing triggered, filled or receipted
-record Bare (a : Answer) : Type 0 where
-  stops : stops_in a ≡ 0
-  fills : fills_in a ≡ 0
-  receipts : receipts_in a ≡ 0
 
 -- the answer to an instruction in a freeze, and what is held then, if it may wait or not
 abbrev waited : Result (Instruction Terms) Refusal → Answer
@@ -91,7 +86,11 @@ by_check g t (Err d) l after r e h = refused_waits g t d l after r e h.0 h.1
 waits_by : (g : Grid) (t : Instruction Ticket) (l after : WaitingLine (Instruction Order)) (r : Result (Unit {0}) Refusal) (a : Answer) → a ≡ told_waiting r → HeldBy (checked g t) l r after → Waits g t l a after
 waits_by g t l after r a e h = subst (λ x. Waits g t l x after) (sym e) (by_check g t (checked g t) l after r refl h)
 
--- an answer to an instruction in a freeze tells of nothing triggered, filled or receipted
+-- an answer to an instruction tells of nothing triggered, filled or receipted
+pub bare_answer : (y : Result Effect Refusal) → Bare (answer_of y)
+bare_answer (Ok e) = record { stops = refl; fills = refl; receipts = refl }
+bare_answer (Err d) = record { stops = refl; fills = refl; receipts = refl }
+
 bare_waited : (a : Answer) (x : Result (Instruction Terms) Refusal) → a ≡ waited x → Bare a
 bare_waited a (Ok i) e = record { stops = ap stops_in e; fills = ap fills_in e; receipts = ap receipts_in e }
 bare_waited a (Err d) e = record { stops = ap stops_in e; fills = ap fills_in e; receipts = ap receipts_in e }

@@ -30,6 +30,12 @@ pub record Enough (a : Answer) (ts : List Terms) (fs : List Fill) (rs : List Rec
   pub few_fills : length fs ≤ 256
   pub few_receipts : length rs ≤ 256
 
+-- an answer that tells of nothing triggered, filled or receipted
+pub record Bare (a : Answer) : Type 0 where
+  pub stops : stops_in a ≡ 0
+  pub fills : fills_in a ≡ 0
+  pub receipts : receipts_in a ≡ 0
+
 -- the answer to an instruction that waits or was refused
 abbrev pub told_waiting : Result (Unit {0}) Refusal → Answer
 told_waiting (Ok u) = Held
@@ -63,6 +69,13 @@ pub record CarriedOut (g : Grid) (room : ℕ) (l : WaitingLine (Instruction Orde
   pub stops : stops_in a ≤ length (stops_for c (book_of s))
   pub fills : fills_in a ≤ length filled
   pub receipts : receipts_in a ≤ length told
+  pub grid : g_after ≡ g
+  pub kept : StockKept l l_after
+  pub same : room_after ≡ room
+
+-- one call is carried out and noted: by the rules, and grid, slots and capacity are as before
+pub record Passed (g : Grid) (room : ℕ) (l : WaitingLine (Instruction Order)) (s : State) (c : Call) (before after : List Entry) (g_after : Grid) (room_after : ℕ) (l_after : WaitingLine (Instruction Order)) (t : State) : Type 0 where
+  pub turned : Turned (rules_of g room l) s c before after t
   pub grid : g_after ≡ g
   pub kept : StockKept l l_after
   pub same : room_after ≡ room

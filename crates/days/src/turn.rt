@@ -1,5 +1,5 @@
 // One call of a day, carried out and noted.
-ghost use Rattle.std.specs.Prelude.{◌≡◌, ℕ, true, List, length};
+ghost use Rattle.std.specs.Prelude.{◌≡◌, ℕ, true, List, [], length};
 ghost use Rattle.orders.specs.declared.instruction.Instruction.{Instruction};
 ghost use Rattle.orders.specs.declared.order.Order.{Order};
 ghost use Rattle.waiting_line.specs.declared.line.WaitingLine.{WaitingLine};
@@ -13,7 +13,7 @@ ghost use Rattle.engine.specs.PreCalls.{grid_under};
 ghost use Rattle.days.specs.Days.{in_pre_call, in_freeze};
 ghost use Rattle.days.specs.Journals.{told_by, has_room};
 ghost use Rattle.days.specs.Phases.{grid_in, state_of, rules_of};
-ghost use Rattle.days.specs.Steps.{StockKept, Turned, CarriedOut, SameFault, stops_for};
+ghost use Rattle.days.specs.Steps.{Bare, StockKept, Turned, CarriedOut, SameFault, Passed};
 ghost use Rattle.days.specs.declared.call.Call.TheVariants.{Match, Lift};
 
 use crate::answer::Answer;
@@ -51,19 +51,10 @@ const NO_RECEIPT: Receipt = Receipt {
     }),
 };
 
-// The stops that a call triggers if it is a match that is held.
-fn stops_for<B: Book>(book: &B, call: Call) -> ArrayVec<Terms, MOST>
-    ensures { result.items ≡ stops_for call (B.Book.orders book.now) }
-{
-    match call {
-        Call::Match { quote, .. } => triggered_orders(book, quote),
-        Call::Send(_) | Call::Freeze | Call::Lift { .. } => ArrayVec::new(),
-    }
-}
-
 // A call in pre-call: the phase after it, and its answer.
 fn carry_out_in_pre_call<S: Store>(pre_call: PreCall, store: &mut S, call: Call) -> (Phase, Answer)
-    ensures { (l : WaitingLine (Instruction Order)) (fills : List Fill) (receipts : List Receipt) → CarriedOut (grid_under pre_call) (S.Store.room store.old) l (in_pre_call (S.Book.orders store.old) (held_in l)) call result.1 fills receipts (grid_in result.0) (S.Store.room store.new) l (state_of result.0 (S.Book.orders store.new) l) }
+    ensures bare { Bare result.1 }
+    ensures carried { (l : WaitingLine (Instruction Order)) (fills : List Fill) (receipts : List Receipt) → CarriedOut (grid_under pre_call) (S.Store.room store.old) l (in_pre_call (S.Book.orders store.old) (held_in l)) call result.1 fills receipts (grid_in result.0) (S.Store.room store.new) l (state_of result.0 (S.Book.orders store.new) l) }
 {
     match call {
         Call::Send(instruction) => {
@@ -114,52 +105,133 @@ fn lift_over<S: Store>(
     }
 }
 
-// A call in a freeze, with as many entries as it lends.
-fn carry_out_in_freeze<S: Store>(
+// A call in pre-call, noted; it triggers, fills and tells nothing.
+fn turn_in_pre_call<S: Store>(
+    pre_call: PreCall,
+    store: &mut S,
+    call: Call,
+    journal: &mut Journal,
+) -> Phase
+    requires { has_room journal.old ≡ true }
+    ensures { (l : WaitingLine (Instruction Order)) → Passed (grid_under pre_call) (S.Store.room store.old) l (in_pre_call (S.Book.orders store.old) (held_in l)) call (told_by journal.old) (told_by journal.new) (grid_in result) (S.Store.room store.new) l (state_of result (S.Book.orders store.new) l) }
+{
+    let (phase, answer) = carry_out_in_pre_call(pre_call, store, call);
+    journal.note(Note { call, answer }, &[], &[], &[]);
+    phase
+}
+
+// A match with as many entries as the call lends, in front of the arrays.
+fn match_within<S: Store>(
+    frozen: Frozen,
+    store: &mut S,
+    stock: &mut LockedStock<'_>,
+    quote: Quote,
+    fills: usize,
+    receipts: usize,
+    filled: &mut [Fill; MOST],
+    told: &mut [Receipt; MOST],
+) -> (Phase, Answer)
+    ensures { CarriedOut (grid_frozen frozen) (S.Store.room store.old) stock.old (in_freeze (S.Book.orders store.old) (held_in stock.old)) (Match quote fills receipts) result.1 filled.new told.new (grid_in result.0) (S.Store.room store.new) stock.new (state_of result.0 (S.Book.orders store.new) stock.new) }
+{
+    let filled = &mut filled[0..fills.min(MOST)];
+    let told = &mut told[0..receipts.min(MOST)];
+    match_over(frozen, store, stock, quote, filled, told)
+}
+
+// A match in a freeze, noted with what it triggers, fills and tells.
+fn turn_by_match<S: Store>(
+    frozen: Frozen,
+    store: &mut S,
+    stock: &mut LockedStock<'_>,
+    quote: Quote,
+    fills: usize,
+    receipts: usize,
+    journal: &mut Journal,
+) -> Phase
+    requires { has_room journal.old ≡ true }
+    ensures { Passed (grid_frozen frozen) (S.Store.room store.old) stock.old (in_freeze (S.Book.orders store.old) (held_in stock.old)) (Match quote fills receipts) (told_by journal.old) (told_by journal.new) (grid_in result) (S.Store.room store.new) stock.new (state_of result (S.Book.orders store.new) stock.new) }
+{
+    let mut filled = [NO_FILL; MOST];
+    let mut told = [NO_RECEIPT; MOST];
+    let stops = triggered_orders(store, quote);
+    let (phase, answer) = match_within(
+        frozen,
+        store,
+        stock,
+        quote,
+        fills,
+        receipts,
+        &mut filled,
+        &mut told,
+    );
+    let call = Call::Match {
+        quote,
+        fills,
+        receipts,
+    };
+    journal.note(Note { call, answer }, &stops, &filled, &told);
+    phase
+}
+
+// A lift with as many entries as the call lends, in front of the array.
+fn lift_within<S: Store>(
+    frozen: Frozen,
+    store: &mut S,
+    stock: &mut LockedStock<'_>,
+    receipts: usize,
+    told: &mut [Receipt; MOST],
+) -> (Phase, Answer)
+    ensures { CarriedOut (grid_frozen frozen) (S.Store.room store.old) stock.old (in_freeze (S.Book.orders store.old) (held_in stock.old)) (Lift receipts) result.1 [] told.new (grid_in result.0) (S.Store.room store.new) stock.new (state_of result.0 (S.Book.orders store.new) stock.new) }
+{
+    lift_over(frozen, store, stock, &mut told[0..receipts.min(MOST)])
+}
+
+// A lift in a freeze, noted with what it tells.
+fn turn_by_lift<S: Store>(
+    frozen: Frozen,
+    store: &mut S,
+    stock: &mut LockedStock<'_>,
+    receipts: usize,
+    journal: &mut Journal,
+) -> Phase
+    requires { has_room journal.old ≡ true }
+    ensures { Passed (grid_frozen frozen) (S.Store.room store.old) stock.old (in_freeze (S.Book.orders store.old) (held_in stock.old)) (Lift receipts) (told_by journal.old) (told_by journal.new) (grid_in result) (S.Store.room store.new) stock.new (state_of result (S.Book.orders store.new) stock.new) }
+{
+    let mut told = [NO_RECEIPT; MOST];
+    let (phase, answer) = lift_within(frozen, store, stock, receipts, &mut told);
+    let call = Call::Lift { receipts };
+    journal.note(Note { call, answer }, &[], &[], &told);
+    phase
+}
+
+// A call in a freeze, noted. Only the calls that end the freeze need arrays.
+fn turn_in_freeze<S: Store>(
     frozen: Frozen,
     store: &mut S,
     stock: &mut LockedStock<'_>,
     call: Call,
-    filled: &mut [Fill; MOST],
-    told: &mut [Receipt; MOST],
-) -> (Phase, Answer)
-    ensures { CarriedOut (grid_frozen frozen) (S.Store.room store.old) stock.old (in_freeze (S.Book.orders store.old) (held_in stock.old)) call result.1 filled.new told.new (grid_in result.0) (S.Store.room store.new) stock.new (state_of result.0 (S.Book.orders store.new) stock.new) }
+    journal: &mut Journal,
+) -> Phase
+    requires { has_room journal.old ≡ true }
+    ensures { Passed (grid_frozen frozen) (S.Store.room store.old) stock.old (in_freeze (S.Book.orders store.old) (held_in stock.old)) call (told_by journal.old) (told_by journal.new) (grid_in result) (S.Store.room store.new) stock.new (state_of result (S.Book.orders store.new) stock.new) }
 {
     match call {
         Call::Send(instruction) => {
             let answer = frozen.send(stock, instruction).into();
-            (Phase::Frozen(frozen), answer)
+            journal.note(Note { call, answer }, &[], &[], &[]);
+            Phase::Frozen(frozen)
         }
-        Call::Freeze => (Phase::Frozen(frozen), Answer::Refused(Refusal::WrongPhase)),
+        Call::Freeze => {
+            let answer = Answer::Refused(Refusal::WrongPhase);
+            journal.note(Note { call, answer }, &[], &[], &[]);
+            Phase::Frozen(frozen)
+        }
         Call::Match {
             quote,
             fills,
             receipts,
-        } => {
-            let filled = &mut filled[0..fills.min(MOST)];
-            let told = &mut told[0..receipts.min(MOST)];
-            match_over(frozen, store, stock, quote, filled, told)
-        }
-        Call::Lift { receipts } => {
-            lift_over(frozen, store, stock, &mut told[0..receipts.min(MOST)])
-        }
-    }
-}
-
-// Carries out a call: the phase after it, and its answer.
-fn carry_out<S: Store>(
-    phase: Phase,
-    store: &mut S,
-    stock: &mut LockedStock<'_>,
-    call: Call,
-    filled: &mut [Fill; MOST],
-    told: &mut [Receipt; MOST],
-) -> (Phase, Answer)
-    ensures { CarriedOut (grid_in phase) (S.Store.room store.old) stock.old (state_of phase (S.Book.orders store.old) stock.old) call result.1 filled.new told.new (grid_in result.0) (S.Store.room store.new) stock.new (state_of result.0 (S.Book.orders store.new) stock.new) }
-{
-    match phase {
-        Phase::PreCall(pre_call) => carry_out_in_pre_call(pre_call, store, call),
-        Phase::Frozen(frozen) => carry_out_in_freeze(frozen, store, stock, call, filled, told),
+        } => turn_by_match(frozen, store, stock, quote, fills, receipts, journal),
+        Call::Lift { receipts } => turn_by_lift(frozen, store, stock, receipts, journal),
     }
 }
 
@@ -177,11 +249,8 @@ pub(crate) fn turn<S: Store>(
     ensures kept { StockKept stock.old stock.new }
     ensures same { S.Store.room store.new ≡ S.Store.room store.old }
 {
-    let mut filled = [NO_FILL; MOST];
-    let mut told = [NO_RECEIPT; MOST];
-    let stops = stops_for(store, call);
-    let (phase, answer) = carry_out(phase, store, stock, call, &mut filled, &mut told);
-    let note = Note { call, answer };
-    journal.note(note, &stops, &filled, &told);
-    phase
+    match phase {
+        Phase::PreCall(pre_call) => turn_in_pre_call(pre_call, store, call, journal),
+        Phase::Frozen(frozen) => turn_in_freeze(frozen, store, stock, call, journal),
+    }
 }

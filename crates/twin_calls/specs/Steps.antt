@@ -1,8 +1,5 @@
 -- The twin's calls, note by note.
-use Rattle.std.specs.Prelude.{◌≡◌, List, [], ◌∷◌, ◌++◌, map, take, Some, None, Option, Vec}
-use Rattle.std.specs.declared.alloc.Global.{Global}
-use Rattle.orders.specs.declared.instruction.Instruction.{Instruction}
-use Rattle.orders.specs.declared.ticket.Ticket.{Ticket}
+use Rattle.std.specs.Prelude.{◌≡◌, List, [], ◌∷◌, ◌++◌, map, take}
 use Rattle.days.specs.Counts.{receipts_in}
 use Rattle.days.specs.Delayed.{Where, outside, inside, moved_on}
 use Rattle.days.specs.declared.answer.Answer.{Answer}
@@ -10,11 +7,13 @@ use Rattle.days.specs.declared.answer.Answer.TheVariants.{Done, Held, Frozen, Ma
 use Rattle.days.specs.declared.call.Call.{Call}
 use Rattle.days.specs.declared.call.Call.TheVariants.{Send, Freeze, Match, Lift}
 use Rattle.days.specs.declared.note.Note.{Note}
+use Rattle.twin_calls.specs.declared.Place.{Place}
+use Rattle.twin_calls.specs.declared.Place.TheVariants as place
 
 -- where a day is: in a freeze with what it holds, or in none
-abbrev pub where_of : Option (Vec (Instruction Ticket) Global) → Where
-where_of None = outside
-where_of (Some held) = inside held.items
+abbrev pub where_of : Place → Where
+where_of (place.PreCall spare) = outside
+where_of (place.Frozen held) = inside held.items
 
 -- a call of a freeze, if it is no instruction
 abbrev pub kept : Call → List Call

@@ -20,6 +20,13 @@ use std::alloc::{AllocError, Global};
 // What waits in a freeze, oldest first.
 type Held = Vec<Instruction<Ticket>>;
 
+// Where a day is: in a freeze with what waits there, or in none, with a list that the next freeze fills anew.
+#[derive(Drop)]
+enum Place {
+    PreCall(Held),
+    Frozen(Held),
+}
+
 // A call of a freeze is made in it, unless it sends an instruction.
 fn keep(twin: &mut Vec<Call>, call: Call) -> Result<(), AllocError>
     ensures { OnOk result (twin.new.items ≡ twin.old.items ++ kept call) }
@@ -46,8 +53,8 @@ fn end(
     Ok(())
 }
 
-// A note in a freeze; what is held after it, or none where it ends the freeze.
-fn in_freeze(twin: &mut Vec<Call>, held: Held, note: Note) -> Result<Option<Held>, AllocError>
+// A note in a freeze, and where the day is after it.
+fn in_freeze(twin: &mut Vec<Call>, held: Held, note: Note) -> Result<Place, AllocError>
     ensures { IfOk result (λ now. Noted (delayed.inside held.items) note twin.old.items twin.new.items (where_of now)) }
 {
     let mut held = held;
@@ -56,7 +63,7 @@ fn in_freeze(twin: &mut Vec<Call>, held: Held, note: Note) -> Result<Option<Held
             if let Call::Send(instruction) = note.call {
                 held.push(instruction)?;
             }
-            Ok(Some(held))
+            Ok(Place::Frozen(held))
         }
         Answer::Matched(_) | Answer::Lifted { .. } => {
             end(
@@ -65,37 +72,34 @@ fn in_freeze(twin: &mut Vec<Call>, held: Held, note: Note) -> Result<Option<Held
                 note.call,
                 note.answer.counts().receipts,
             )?;
-            Ok(None)
+            Ok(Place::PreCall(held))
         }
         Answer::Done(_) | Answer::Frozen | Answer::Refused(_) => {
             keep(twin, note.call)?;
-            Ok(Some(held))
+            Ok(Place::Frozen(held))
         }
     }
 }
 
-// A note outside a freeze; what is held after it, where it begins one.
-fn in_pre_call(heap: Global, twin: &mut Vec<Call>, note: Note) -> Result<Option<Held>, AllocError>
+// A note outside a freeze, and where the day is after it.
+fn in_pre_call(twin: &mut Vec<Call>, spare: Held, note: Note) -> Result<Place, AllocError>
     ensures { IfOk result (λ now. Noted outside note twin.old.items twin.new.items (where_of now)) }
 {
+    let mut held = spare;
+    held.clear();
     twin.push(note.call)?;
     match note.answer {
-        Answer::Frozen => Ok(Some(Vec::new(heap))),
-        _ => Ok(None),
+        Answer::Frozen => Ok(Place::Frozen(held)),
+        _ => Ok(Place::PreCall(held)),
     }
 }
 
-fn retell(
-    heap: Global,
-    twin: &mut Vec<Call>,
-    held: Option<Held>,
-    note: Note,
-) -> Result<Option<Held>, AllocError>
-    ensures { IfOk result (λ now. Noted (where_of held) note twin.old.items twin.new.items (where_of now)) }
+fn retell(twin: &mut Vec<Call>, place: Place, note: Note) -> Result<Place, AllocError>
+    ensures { IfOk result (λ now. Noted (where_of place) note twin.old.items twin.new.items (where_of now)) }
 {
-    match held {
-        Some(held) => in_freeze(twin, held, note),
-        None => in_pre_call(heap, twin, note),
+    match place {
+        Place::Frozen(held) => in_freeze(twin, held, note),
+        Place::PreCall(spare) => in_pre_call(twin, spare, note),
     }
 }
 
@@ -104,9 +108,9 @@ pub fn twin_calls(heap: Global, journal: &Journal) -> Result<Vec<Call>, AllocErr
     ensures { IfOk result (λ v. v.items ≡ calls (retold outside (told_by journal.now))) }
 {
     let mut twin = Vec::new(heap);
-    let mut held = None;
+    let mut place = Place::PreCall(Vec::new(heap));
     for note in journal.notes() {
-        held = retell(heap, &mut twin, held, *note)?;
+        place = retell(&mut twin, place, *note)?;
     }
     Ok(twin)
 }

@@ -5,7 +5,7 @@ use Rattle.twin_calls.proofs.Retelling.{retold_more, retold_all, notes_retold}
 use Rattle.twin_calls.proofs.twin_calls.Goals as goal
 
 pub loop-note-preserved : goal.loop-note-preserved
-loop-note-preserved c = retold_more c.notes-note-items.result.now c.loop-note.note-index _ _ _ _ _ _ c.loop-note-test.true c.loop-note.invariant c.in_ok-held.ensures
+loop-note-preserved c = retold_more c.notes-note-items.result.now c.loop-note.note-index _ _ _ _ _ _ c.loop-note-test.true c.loop-note.invariant c.in_ok-place.ensures
 
 pub returns : goal.returns
 returns c =
