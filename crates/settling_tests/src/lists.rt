@@ -21,7 +21,8 @@ pub(crate) fn check_holds<B: Book>(
 ) -> Result<(), Fail> {
     assert_eq!(rt; book.count(), orders.len());
     for (place, terms) in orders.iter().enumerate() {
-        assert_eq!(rt; book.order_at(place), Order::new(*terms));
+        let held = book.order_at(place).map(|order| order.terms());
+        assert_eq!(rt; held, Some(*terms));
     }
     Ok(())
 }
