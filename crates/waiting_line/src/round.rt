@@ -4,6 +4,7 @@ ghost use Rattle.waiting_line.specs.Lines.{room_of, waiting, slot_at};
 ghost use Rattle.waiting_line.specs.Steps.{Pushed, Advanced};
 
 use crate::line::WaitingLine;
+use orders::capacity::MOST;
 
 impl<'a, T: Copy> WaitingLine<'a, T> {
     // The slot that is `behind` the first.
@@ -13,7 +14,7 @@ impl<'a, T: Copy> WaitingLine<'a, T> {
         ensures value { result ≡ slot_at self.now behind }
         ensures within { result < length self.now.slots.now }
     {
-        let room = self.capacity();
+        let room = self.slots.len().min(MOST);
         let slot = self.first + behind;
         if slot < room { slot } else { slot - room }
     }
