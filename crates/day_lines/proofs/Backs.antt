@@ -33,7 +33,7 @@ leading_run [] rest d e = e
 leading_run (b ∷ ds) rest d e = cond-true (is_ascii_digit b) (1 + prefix_len is_ascii_digit (ds ++ rest)) 0 (digit_byte b d.0) ∙ omega (arith, leading_run ds rest d.1 e)
 
 front_token : (ds rest : List ℕ) → IsNumeral 10 ds → prefix_len is_ascii_digit rest ≡ 0 → first_token (ds ++ rest) ≡ digit_run ds
-front_token ds rest d e = sym (run_token (ds ++ rest) (length ds) (sym (leading_run ds rest d.1 e)) d.0) ∙ ap digit_run (take_at ds rest (length ds) refl)
+front_token ds rest d e = sym (run_token (ds ++ rest) (length ds) (sym (leading_run ds rest d.1 e)) d.0).0 ∙ ap digit_run (take_at ds rest (length ds) refl)
 
 -- the reading after p bytes gives x and leaves rest
 record Gives {A : Type 0} (next : List ℕ → ℕ → Result (A × ℕ) FieldFault) (line : List ℕ) (p : ℕ) (x : A) (rest : List ℕ) : Type 0 where

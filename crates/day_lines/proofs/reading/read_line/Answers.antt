@@ -4,8 +4,11 @@ use Rattle.day_lines.proofs.Places.{placed}
 use Rattle.day_lines.specs.Laws.{Placed}
 use Rattle.day_lines.proofs.reading.read_line.Goals as goal
 
-pub returns-clause-placed : goal.returns-clause-placed
-returns-clause-placed c = subst (Placed c.args.line.now) (sym c.place.ensures) (placed _ c.args.line.now)
-
-pub returns-clause-read_back : goal.returns-clause-read_back
-returns-clause-read_back c = reads_back
+pub returns : goal.returns
+returns c =
+    let line = c.args.line.now in
+    record {
+      value = c.place.ensures;
+      placed = subst (Placed line) (sym c.place.ensures) (placed c.args.stage line);
+      read_back = reads_back;
+    }
