@@ -13,9 +13,6 @@ impl Book for SavedBook<'_> {
     }
 
     fn order_at(&self, place: usize) -> Option<Order> {
-        if place >= self.count() {
-            return None;
-        }
-        self.layout.order(self.settings, place).ok()
+        self.order(place)
     }
 }
