@@ -9,7 +9,6 @@ use engine::pre_call::PreCall;
 use locked_stock::hold::LockedStock;
 use locked_stock::receipt::Receipt;
 use orders::instruction::Instruction;
-use orders::order::Order;
 use orders::refusal::Refusal;
 use orders::settings::Settings;
 use orders::ticket::Ticket;
@@ -128,8 +127,9 @@ fn end<S: Store>(phase: Phase, store: &mut S, stock: &mut LockedStock<'_>) {
 // The book holds what is reckoned, in this sequence.
 fn has_book<B: Book>(book: &B, reckoned: &[Resting]) -> bool {
     book.count() == reckoned.len()
-        && reckoned.iter().enumerate().all(|(place, order)| book.order_at(place)
-            == Order::new(order.terms()))
+        && reckoned.iter().enumerate().all(|(place, order)| book
+            .order_at(place)
+            .is_some_and(|found| found.terms() == order.terms()))
 }
 
 fn is_left<B: Book>(
