@@ -2,10 +2,11 @@
 use orders::order::Order;
 
 // The neighbours of a row: none before the first, and none after the last.
+// There are at most 256 rows, so their indices are stored narrow.
 #[derive(Clone, Copy)]
 pub(crate) struct Links {
-    pub(crate) before: Option<usize>,
-    pub(crate) after: Option<usize>,
+    pub(crate) before: Option<u16>,
+    pub(crate) after: Option<u16>,
 }
 
 // A free row keeps its last order; its `after` is the next free row.

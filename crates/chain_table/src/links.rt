@@ -10,28 +10,28 @@ use orders::order::Order;
 // Each step asks for a row or the end, as an index into a slice is asked to be in range.
 impl Chain {
     // The neighbours of a row, or of the end.
-    pub(crate) fn neighbours(&self, at: Option<usize>) -> Links
+    pub(crate) fn neighbours(&self, at: Option<u16>) -> Links
         requires { Node self.now (spot at) }
         ensures { result ≡ links_at self.now (spot at) }
     {
         match at {
-            Some(row) => self.rows[row].links,
+            Some(row) => self.rows[usize::from(row)].links,
             None => self.ends,
         }
     }
 
-    pub(crate) fn relink(&mut self, at: Option<usize>, links: Links)
+    pub(crate) fn relink(&mut self, at: Option<u16>, links: Links)
         requires { Node self.old (spot at) }
         ensures { Relinked self.old self.new (spot at) links }
     {
         match at {
-            Some(row) => self.rows[row].links = links,
+            Some(row) => self.rows[usize::from(row)].links = links,
             None => self.ends = links,
         }
     }
 
     // Makes `b` follow `a`.
-    pub(crate) fn join(&mut self, a: Option<usize>, b: Option<usize>)
+    pub(crate) fn join(&mut self, a: Option<u16>, b: Option<u16>)
         requires first { Node self.old (spot a) }
         requires second { Node self.old (spot b) }
         ensures { Joined self.old self.new (spot a) (spot b) }

@@ -46,7 +46,7 @@ impl ChainTable {
         ensures { Freed self.old self.new }
     {
         if self.count == self.chain.rows.len() {
-            self.free = Some(self.count);
+            self.free = Some(self.count as u16);
             self.chain.push(order);
         }
     }
@@ -57,12 +57,13 @@ impl ChainTable {
         requires spare { self.old.count < vec_len self.old.chain.rows }
         ensures { CameLast self.old self.new (terms_of order) }
     {
-        let at = self.free.unwrap();
+        let row = self.free.unwrap();
+        let at = usize::from(row);
         self.free = self.chain.rows[at].links.after;
         let last = self.chain.ends.before;
         self.chain.refill(at, order);
-        self.chain.join(last, Some(at));
-        self.chain.join(Some(at), None);
+        self.chain.join(last, Some(row));
+        self.chain.join(Some(row), None);
         self.count += 1;
     }
 
@@ -77,8 +78,9 @@ impl ChainTable {
             before: None,
             after: self.free,
         };
-        self.chain.relink(Some(at), links);
-        self.free = Some(at);
+        let row = Some(at as u16);
+        self.chain.relink(row, links);
+        self.free = row;
         self.count -= 1;
     }
 }

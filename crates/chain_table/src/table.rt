@@ -13,7 +13,7 @@ pub struct ChainTable {
     // how many rows are in use
     pub(crate) count: usize,
     // the first free row, if any row is free
-    pub(crate) free: Option<usize>,
+    pub(crate) free: Option<u16>,
     pub(crate) capacity: usize,
     // there is memory for all rows, at most 256
     ghost most: { capacity ≤ 256 },

@@ -13,7 +13,7 @@ use std::marker::Model;
 #[derive(Drop)]
 pub(crate) struct RowsInUse<'a> {
     table: &'a ChainTable,
-    next: Option<usize>,
+    next: Option<u16>,
 }
 
 // Clauses see each of those rows with the terms in it.
@@ -33,7 +33,7 @@ impl<'a> Iterator for RowsInUse<'a> {
     ghost remaining = { item_count (λ left. left) };
 
     fn next(&mut self) -> Option<(usize, Order)> {
-        let at = self.next?;
+        let at = usize::from(self.next?);
         let row = &self.table.chain.rows[at];
         self.next = row.links.after;
         Some((at, row.order))

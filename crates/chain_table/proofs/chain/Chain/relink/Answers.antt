@@ -1,4 +1,4 @@
-use Rattle.std.proofs.Common.{◌≡◌, ◌<◌, false, cond, eqb, length, get_or, refl, sym, ap, ◌∙◌, arith}
+use Rattle.std.proofs.Common.{◌≡◌, ◌<◌, Some, false, cond, eqb, length, get_or, refl, sym, ap, ◌∙◌, arith}
 use Rattle.std.proofs.lemmas.Bool.{ne_eqb}
 use Rattle.chain_table.specs.Chains.{links_of, told_by, no_links, no_terms}
 use Rattle.chain_table.specs.declared.chain.Row.{Row}
@@ -10,10 +10,10 @@ pub returns-in-Some : goal.returns-in-Some
 returns-in-Some c =
     let t = c.args.self.now in
     let rows = t.rows.items in
-    let at = c.in-Some.row in
+    let at = c.from.result in
     let row = c.index_mut.result.now in
     let new : Row = record { order = row.order; links = c.args.links } in
-    let here = told_row c.args.at at _ c.in-Some.is c.requires in
+    let here = told_row c.args.at at _ (c.in-Some.is ∙ ap Some (sym c.from.ensures)) c.requires in
     let within : at < length rows = omega (arith, t.rows.ok.0, here.1) in
     let other : eqb at 256 ≡ false = ne_eqb _ _ (λ k. omega (arith, here.2)) in
     record {

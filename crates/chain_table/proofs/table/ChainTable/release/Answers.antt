@@ -12,6 +12,12 @@ use Rattle.chain_table.proofs.table.ChainTable.release.Goals.{After-relink}
 pub index-requires : goal.index-requires
 index-requires c = used_made c.requires
 
+pub overflow_cast-row : goal.overflow_cast-row
+overflow_cast-row c =
+    let t = c.args.self.now in
+    let made = used_made c.requires in
+    omega (arith, made, t.within, t.most)
+
 pub join-requires : goal.join-requires
 join-requires c =
     let t = c.args.self.now in
