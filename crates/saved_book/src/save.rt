@@ -58,11 +58,9 @@ fn put_each<P: Part<N>, const N: usize, B: Book>(book: &B, out: &mut [u8], at: u
     ensures after { out.new ≡ laid at (flat_map P.Part.part (B.Book.orders book.now)) out.old }
     ensures fit { AllByRecursion FitsItsBytes (B.Book.orders book.now) }
 {
-    // chunks of a lent slice do not tell a proof what is written to them, so the end is kept
-    let mut end = at;
-    for order in orders_of(book) {
-        put(out, end, &P::part_of(order.terms()));
-        end += N;
+    // chunks of a lent slice do not tell a proof what is written to them, so each part has its place
+    for (place, order) in orders_of(book).enumerate() {
+        put(out, at + N * place, &P::part_of(order.terms()));
     }
 }
 
