@@ -4,6 +4,7 @@ ghost use Rattle.pairing.specs.Answers.{Filled};
 ghost use Rattle.pairing.specs.Laws.{FillsAddUp, ByPriority};
 
 use crate::pairs::pair;
+use crate::priority::{Buying, Selling};
 use crate::queue::Interests;
 use book::Book;
 use orders::refusal::Refusal;
@@ -26,7 +27,7 @@ pub fn fill_orders<B: Book>(
     if fills.len() < book.count() {
         return Err(Refusal::FillEntries);
     }
-    let buys = Interests::of(book, quote, Side::Buy, price);
-    let sells = Interests::of(book, quote, Side::Sell, price);
+    let buys = Interests::of(book, &Buying, quote, Side::Buy, price);
+    let sells = Interests::of(book, &Selling, quote, Side::Sell, price);
     Ok(pair(price, &buys, &sells, fills))
 }
